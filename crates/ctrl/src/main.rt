@@ -1,12 +1,14 @@
 //! ctrl shows that two C functions compute the same for all integers.
 #![tactic(auto)]
 
-ghost use Rattle.std.specs.Prelude.{◌≡◌, IfErr, None, map, string_bytes};
+ghost use Rattle.std.specs.Prelude.{◌≡◌, ⊤, IfErr, MatchOption, None, map, string_bytes};
 ghost use Rattle.std.specs.Process.{exit_status};
 ghost use Rattle.rx_cli.specs.Answers.{AreEqual, IsRefutedBy};
 ghost use Rattle.rx_report.specs.Ends.{code_of};
+ghost use Rattle.rx_report.specs.Texts.{IsReportableVerdict};
 
-use rx_cli::{Status, run};
+use rx_cli::{Ending, Status, run_told};
+use rx_messages::explain;
 use rx_system::{SystemFiles, SystemOutput};
 use std::env;
 use std::io::ErrorKind;
@@ -31,19 +33,43 @@ fn words_of(rt: &HostRuntime) -> Result<Vec<String>, Status>
     }
 }
 
-/// How the run of these words over the system's files and output ends.
-fn run_words(rt: &HostRuntime, words: &[String]) -> Status
-    ensures sound { result ≡ Status.Equivalent → AreEqual None (map string_bytes words.now) }
-    ensures different { result ≡ Status.Different → IsRefutedBy None (map string_bytes words.now) }
+/// How the run of these words over the system's files and output ends, and what it reported.
+fn run_words(rt: &HostRuntime, words: &[String]) -> Ending
+    ensures sound { result.status ≡ Status.Equivalent → AreEqual None (map string_bytes words.now) }
+    ensures different { result.status ≡ Status.Different →
+        IsRefutedBy None (map string_bytes words.now) }
+    ensures reportable { MatchOption result.verdict ⊤ IsReportableVerdict }
 {
     let mut files = SystemFiles::new(rt);
     let mut out = SystemOutput::new(rt);
-    run(rt.alloc(), words, &mut files, &mut out)
+    run_told(rt.alloc(), words, &mut files, &mut out)
+}
+
+/// Says on standard error what a person needs, if the run of these words ended so. That nothing
+/// more can be said, or nothing at all, changes neither the report nor the exit status.
+fn explain_words(rt: &HostRuntime, words: &[String], ending: Ending)
+    requires { MatchOption ending.verdict ⊤ IsReportableVerdict }
+{
+    let mut files = SystemFiles::new(rt);
+    let printer = rt.stderr();
+    let mut err = SystemOutput::new(&printer);
+    let _ = explain(
+        rt.alloc(),
+        words,
+        ending.status,
+        ending.verdict,
+        &mut files,
+        &mut err,
+    );
 }
 
 fn main(rt: HostRuntime) -> ExitCode {
     match words_of(&rt) {
-        Ok(words) => exit_of(run_words(&rt, &words)),
+        Ok(words) => {
+            let ending = run_words(&rt, &words);
+            explain_words(&rt, &words, ending);
+            exit_of(ending.status)
+        }
         Err(status) => exit_of(status),
     }
 }

@@ -1,12 +1,12 @@
 -- What can be shown is answered by a yes, unless a call finds a fault or there is no memory.
-use Rattle.std.proofs.Common.{◌≡◌, ◌∙◌, ◌⊎◌, ℕ, ◌≤◌, Bool, true, false, List, Option, Some, length, nat_lt, inl, inr, refl, sym, ap, subst}
+use Rattle.std.proofs.Common.{◌≡◌, ◌∙◌, ℕ, ◌≤◌, Bool, true, false, List, Option, Some, length, nat_lt, inl, inr, ap, subst}
 use Rattle.std.proofs.lemmas.Bool.{le-ltb}
 use Rattle.std.specs.Prelude.{MatchBool}
 use Rattle.c_front.specs.declared.stages.Next.TheVariants.{Ends, Goes}
 use Rattle.rx_command.specs.Commands.{Check, Command, Compare, Comparison, Functions, Prove, command_of}
 use Rattle.rx_command.specs.declared.command.Effort.{Effort}
 use Rattle.rx_io.specs.Outside.{Names}
-use Rattle.rx_search.specs.Search.{Closed, Searched, searched}
+use Rattle.rx_search.specs.Search.{Closed, Searched}
 use Rattle.rx_report.specs.declared.answer.Answer.{Answer}
 use Rattle.rx_report.specs.declared.answer.Answer.TheVariants.{Line}
 use Rattle.rx_report.specs.declared.ends.Status.{Status}
@@ -15,10 +15,11 @@ use Rattle.rx_cli.specs.declared.problems.Problem.{Problem}
 use Rattle.rx_report.specs.declared.verdicts.Verdict.TheVariants as verdict
 use Rattle.rx_cli.specs.Answers.{AnswersOrFails, AnswersSoundly, IsDone, OnSource, longest_source}
 use Rattle.rx_cli.specs.Checks.{IsChecked}
-use Rattle.rx_cli.specs.Completeness.{CanShow, Holds, HoldsAccepted, HoldsClosed, SaysYes}
+use Rattle.rx_cli.specs.Completeness.{CanShow, HoldsAccepted, HoldsClosed, SaysYes}
 use Rattle.rx_report.specs.Ends.{status_in, status_of}
 use Rattle.rx_cli.specs.Problems.{asked}
 use Rattle.rx_cli.specs.Proofs.{IsProved, OnProblem, OnSearched}
+use Rattle.rx_cli.specs.Searches.{sought}
 use Rattle.rx_cli.specs.Run.{RunEnds}
 use Rattle.rx_cli.proofs.OneReport.{one_asked, one_checked}
 use Rattle.rx_cli.proofs.Written.{written_accepted}
@@ -61,7 +62,7 @@ module _ (names : Names) (answer : Answer) where
 
   proved_yes : (f : Functions) (effort : Effort) (source : List ℕ) (problem : Problem) (moves : _)
       → asked f source (Goes problem)
-      → searched problem.rules problem.goal effort.depth effort.budget ≡ Closed moves →
+      → sought problem.rules problem.goal effort.depth effort.budget ≡ Closed moves →
       IsProved f effort source answer → status_in answer ≡ Said.Equivalent
   proved_yes f effort source problem moves asks closes (inl (v, ends, is)) =
       absurd (one_asked f source (Ends v) (Goes problem) ends asks)

@@ -13,9 +13,10 @@ use Rattle.rx_report.specs.declared.answer.Answer.TheVariants.{Line, Proof}
 use Rattle.rx_report.specs.declared.verdicts.Verdict.{Verdict}
 use Rattle.rx_report.specs.declared.verdicts.Verdict.TheVariants as Said
 use Rattle.rx_cli.specs.Answers.{AreEqual, Input, AnswersSoundly, AnswersOrFails, IsDone, IsInput, IsHeld, IsRefutedBy, Means, OnSource, functions_in, longest_source}
-use Rattle.rx_search.specs.Search.{Searched, NoRanks, Closed, Large, Spent, NoPlan, searched}
+use Rattle.rx_search.specs.Search.{Searched, NoRanks, LargeRanks, Closed, Large, Spent, NoPlan}
 use Rattle.rx_cli.specs.Examples.{IsShown}
 use Rattle.rx_cli.specs.Proofs.{IsProved, OnSearched}
+use Rattle.rx_cli.specs.Searches.{sought}
 use Rattle.rx_cli.specs.declared.problems.Problem.{Problem}
 use Rattle.rx_report.specs.Ends.{check_status, status_in, status_of}
 use Rattle.rx_cli.specs.Refutations.{IsRefuted, Refutes}
@@ -122,6 +123,7 @@ module _ (held : Option Names) (words : List (List ℕ)) where
     not_searched : (problem : Problem) (effort : Effort) (s : Searched) →
         OnSearched problem effort s answer → ⊥
     not_searched problem effort NoRanks is = no_line Said.NoRanks is
+    not_searched problem effort (LargeRanks rows) is = no_line Said.LargeSearch is
     not_searched problem effort (Closed moves) (text, proof, is) = no_proof text is
     not_searched problem effort (Large path rows) is = no_line Said.LargeSearch is
     not_searched problem effort Spent is = no_line (Said.Visits effort.budget) is
@@ -132,7 +134,7 @@ module _ (held : Option Names) (words : List (List ℕ)) where
     not_proved f effort source (inl (verdict, asks, is)) = no_line verdict is
     not_proved f effort source (inr (problem, asks, on)) =
         not_searched problem effort
-        (searched problem.rules problem.goal effort.depth effort.budget) on
+        (sought problem.rules problem.goal effort.depth effort.budget) on
 
     not_proved_long : (f : Functions) (effort : Effort) (source : List ℕ) (long : Bool) →
         MatchBool long (answer ≡ Line Said.LongSource) (IsProved f effort source answer) → ⊥

@@ -13,5 +13,7 @@ pub mod Proved
 pub mod Ready
 pub mod Refuted
 pub mod RunLemmas
+pub mod Searching
 pub mod Sound
 pub mod Written
+pub mod ToldLemmas

@@ -14,7 +14,7 @@ use Rattle.rx_command.specs.declared.command.Effort.{Effort}
 use Rattle.rx_io.specs.Outside.{Names}
 use Rattle.rx_log.specs.declared.log.Log.{Log}
 use Rattle.rx_logtext.proofs.OneReading.{never_both, one_bad_line, one_log}
-use Rattle.rx_search.specs.Search.{Searched, NoRanks, Closed, Large, Spent, NoPlan, searched}
+use Rattle.rx_search.specs.Search.{Searched, NoRanks, LargeRanks, Closed, Large, Spent, NoPlan}
 use Rattle.rx_moves.specs.Moves.{Move}
 use Rattle.rx_term.specs.WellMade.{IsWellMade}
 use Rattle.rx_report.specs.declared.answer.Answer.{Answer}
@@ -38,6 +38,7 @@ use Rattle.rx_cli.specs.declared.examples.Tally.{Tally}
 use Rattle.rx_cli.specs.Problems.{asked, front_stage, problem_stage, rows_of}
 use Rattle.rx_cli.specs.Run.{Reports}
 use Rattle.rx_cli.specs.Proofs.{AreOne, AreProofs, IsProofText, IsProved, OnProblem, OnSearched}
+use Rattle.rx_cli.specs.Searches.{sought}
 use Rattle.rx_report.specs.Verdicts.{of_log_verdict, verdict_of}
 use Rattle.rx_cli.proofs.Ready.{ready}
 
@@ -182,7 +183,7 @@ record AreFound (f : Functions) (effort : Effort) (source t v : List ℕ) : Type
   pub problem : Problem
   pub moves : List Move
   pub is_asked : asked f source (Goes problem)
-  pub is_closed : searched problem.rules problem.goal effort.depth effort.budget ≡ Closed moves
+  pub is_closed : sought problem.rules problem.goal effort.depth effort.budget ≡ Closed moves
   pub first : IsProofText problem moves t
   pub second : IsProofText problem moves v
 
@@ -191,9 +192,11 @@ module _ (f : Functions) (effort : Effort) (source : List ℕ) (a b : Answer) wh
   Proofs = AreFound f effort source (text_in a) (text_in b)
 
   module _ (problem : Problem) (found : asked f source (Goes problem)) where
-    one_searched : (s : Searched) → searched problem.rules problem.goal effort.depth effort.budget
+    one_searched : (s : Searched) → sought problem.rules problem.goal effort.depth effort.budget
         ≡ s → OnSearched problem effort s a → OnSearched problem effort s b → AreAlike Proofs a b
     one_searched NoRanks comes a_is b_is = equal_answers Proofs a b (Line Said.NoRanks) a_is b_is
+    one_searched (LargeRanks rows) comes a_is b_is =
+        equal_answers Proofs a b (Line Said.LargeSearch) a_is b_is
     one_searched (Closed moves) comes (t, p, a_is) (v, q, b_is) = inr (
       subst IsProof (sym a_is) tt,
       (
@@ -222,7 +225,7 @@ module _ (f : Functions) (effort : Effort) (source : List ℕ) (a b : Answer) wh
   one_proved (inr (r, q, on)) (inl (w, p, b_is)) = absurd (one_asked f source (Goes r) (Ends w) q p)
   one_proved (inr (q, p, on)) (inr (r, too, other)) =
       let same : q ≡ r = one_asked f source (Goes q) (Goes r) p too in
-      one_searched r too (searched r.rules r.goal effort.depth effort.budget) refl
+      one_searched r too (sought r.rules r.goal effort.depth effort.budget) refl
       (subst (λ (z : Problem). OnProblem z effort a) same on) other
 
 -- ---- answers

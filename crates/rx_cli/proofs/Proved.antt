@@ -3,7 +3,7 @@ use Rattle.std.proofs.Common.{◌≡◌, ◌∙◌, ℕ, List, inl, inr, sym, ap
 use Rattle.c_front.specs.declared.stages.Next.TheVariants.{Goes}
 use Rattle.rx_command.specs.Commands.{Functions}
 use Rattle.rx_command.specs.declared.command.Effort.{Effort}
-use Rattle.rx_search.specs.Search.{Searched, NoRanks, Closed, Large, Spent, NoPlan, searched}
+use Rattle.rx_search.specs.Search.{Searched, NoRanks, LargeRanks, Closed, Large, Spent, NoPlan}
 use Rattle.rx_moves.specs.Moves.{Move}
 use Rattle.rx_report.specs.declared.answer.Answer.{Answer}
 use Rattle.rx_report.specs.declared.answer.Answer.TheVariants.{Line}
@@ -16,6 +16,7 @@ use Rattle.rx_report.specs.Reports.{text_in}
 use Rattle.rx_report.specs.Ends.{status_in, status_of}
 use Rattle.rx_cli.specs.Problems.{asked}
 use Rattle.rx_cli.specs.Proofs.{IsProofText, IsProved, OnSearched}
+use Rattle.rx_cli.specs.Searches.{sought}
 use Rattle.rx_cli.proofs.Checked.{never_asked}
 use Rattle.rx_cli.proofs.Sound.{problem_agrees}
 
@@ -30,6 +31,9 @@ module _ (f : Functions) (source : List ℕ) (answer : Answer)
       → (moves : List Move) × IsProofText problem moves (text_in answer)
   searched_proof problem effort NoRanks is =
       let no : Ends.Unknown ≡ Ends.Equivalent = status_is Said.NoRanks is in
+      absurd (let none : ⊥ = cc in none)
+  searched_proof problem effort (LargeRanks rows) is =
+      let no : Ends.Large ≡ Ends.Equivalent = status_is Said.LargeSearch is in
       absurd (let none : ⊥ = cc in none)
   searched_proof problem effort (Closed moves) (text, proof, is) =
       (moves, subst (IsProofText problem moves) (sym (ap text_in is)) proof)
@@ -53,7 +57,7 @@ module _ (f : Functions) (source : List ℕ) (answer : Answer)
     problem,
     found,
     searched_proof problem effort
-        (searched problem.rules problem.goal effort.depth effort.budget) on,
+        (sought problem.rules problem.goal effort.depth effort.budget) on,
   )
 
   -- both functions agree

@@ -8,7 +8,7 @@ use Rattle.rx_io.specs.Outside.{Names}
 use Rattle.rx_log.specs.Acceptance.{IsAccepted}
 use Rattle.rx_log.specs.declared.log.Log.{Log}
 use Rattle.rx_logtext.specs.Logs.{IsLog}
-use Rattle.rx_search.specs.Search.{Closed, searched}
+use Rattle.rx_search.specs.Search.{Closed}
 use Rattle.rx_moves.specs.Moves.{Move}
 use Rattle.rx_report.specs.declared.ends.Status.{Status}
 use Rattle.rx_report.specs.declared.ends.Status.TheVariants as Ends
@@ -16,6 +16,7 @@ use Rattle.rx_cli.specs.declared.problems.Problem.{Problem}
 use Rattle.rx_cli.specs.Answers.{longest_source}
 use Rattle.rx_cli.specs.Checks.{longest_log}
 use Rattle.rx_cli.specs.Problems.{asked}
+use Rattle.rx_cli.specs.Searches.{sought}
 
 -- the text that is held asks this about two functions of it
 pub record Holds (names : Names) (f : Functions) (problem : Problem) : Type 0 where
@@ -41,7 +42,7 @@ pub record HoldsClosed (names : Names) (f : Functions) (effort : Effort) : Type 
   pub source : Holds names f problem
   pub moves : List Move
   pub closes :
-      searched problem.rules problem.goal effort.depth effort.budget ≡ Closed moves
+      sought problem.rules problem.goal effort.depth effort.budget ≡ Closed moves
 
 -- the words ask for a check of a log that is accepted, or for a search that closes
 abbrev pub CanShow : Names → List (List ℕ) → Type 0

@@ -8,4 +8,6 @@ pub mod Problems
 pub mod Proofs
 pub mod Refutations
 pub mod Run
+pub mod Searches
 pub mod Steps
+pub mod Told

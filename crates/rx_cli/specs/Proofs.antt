@@ -7,7 +7,7 @@ use Rattle.rx_io.specs.Outside.{Names}
 use Rattle.rx_log.specs.Acceptance.{IsAccepted}
 use Rattle.rx_log.specs.declared.log.Log.{Log}
 use Rattle.rx_logtext.specs.Logs.{IsLog}
-use Rattle.rx_search.specs.Search.{Searched, NoRanks, Closed, Large, Spent, NoPlan, searched}
+use Rattle.rx_search.specs.Search.{Searched, NoRanks, LargeRanks, Closed, Large, Spent, NoPlan}
 use Rattle.rx_moves.specs.Moves.{Move, move_of}
 use Rattle.rx_report.specs.declared.answer.Answer.{Answer}
 use Rattle.rx_report.specs.declared.answer.Answer.TheVariants.{Line, Proof}
@@ -17,6 +17,7 @@ use Rattle.rx_cli.specs.declared.problems.Problem.{Problem}
 use Rattle.rx_report.specs.declared.verdicts.Verdict.{Verdict}
 use Rattle.rx_report.specs.declared.verdicts.Verdict.TheVariants as Said
 use Rattle.rx_cli.specs.Problems.{asked}
+use Rattle.rx_cli.specs.Searches.{sought}
 
 -- the text of a log that is accepted for the problem, and whose steps are these moves
 pub record IsProofText (problem : Problem) (moves : List Move) (text : List ℕ) : Type 0 where
@@ -25,9 +26,10 @@ pub record IsProofText (problem : Problem) (moves : List Move) (text : List ℕ)
   pub steps : map move_of log.steps ≡ moves
   pub is : IsLog text log
 
--- the answer where the search comes to this; what shows the moves of a proof is free
+-- the answer where the searches come to this; what shows the moves of a proof is free
 abbrev pub OnSearched : Problem → Effort → Searched → Answer → Type 0
 OnSearched problem effort NoRanks answer = answer ≡ Line Said.NoRanks
+OnSearched problem effort (LargeRanks rows) answer = answer ≡ Line Said.LargeSearch
 OnSearched problem effort (Closed moves) answer =
     (text : List ℕ) × IsProofText problem moves text × (answer ≡ Proof text)
 OnSearched problem effort (Large path rows) answer = answer ≡ Line Said.LargeSearch
@@ -38,7 +40,7 @@ OnSearched problem effort NoPlan answer = answer ≡ Line (Said.Depth effort.dep
 abbrev pub OnProblem : Problem → Effort → Answer → Type 0
 OnProblem problem effort answer =
     OnSearched problem effort
-    (searched problem.rules problem.goal effort.depth effort.budget) answer
+    (sought problem.rules problem.goal effort.depth effort.budget) answer
 
 -- what is said of a text and two functions of it where a proof is asked for
 abbrev pub IsProved : Functions → Effort → List ℕ → Answer → Type 0
@@ -57,7 +59,7 @@ pub record AreProofs (names : Names) (words : List (List ℕ)) (t v : List ℕ) 
   pub asks : command_of words ≡ Some (Compare (Prove functions effort))
   pub held : names functions.file ≡ Some source
   pub is_asked : asked functions source (Goes problem)
-  pub is_closed : searched problem.rules problem.goal effort.depth effort.budget ≡ Closed moves
+  pub is_closed : sought problem.rules problem.goal effort.depth effort.budget ≡ Closed moves
   pub first : IsProofText problem moves t
   pub second : IsProofText problem moves v
 

@@ -1,6 +1,6 @@
 -- What the functions inside promise to one another. Nothing that a caller of the run reads depends
 -- on these.
-use Rattle.std.specs.Prelude.{◌≡◌, ◌≢◌, ◌<◌, ◌≤◌, ◌^◌, ◌⊎◌, length, true, false, ⊤, ℕ, List, Option, Some, None, Vec, slice_get}
+use Rattle.std.specs.Prelude.{◌≡◌, ◌≢◌, ◌<◌, ◌≤◌, ◌^◌, ◌⊎◌, length, true, false, ⊤, ℕ, Bool, List, Option, Some, None, Vec, map, slice_get}
 use Rattle.c_ast.specs.declared.expr.Expr.{Expr}
 use Rattle.c_ast.specs.RowForms.{is_row_form}
 use Rattle.c_ast.specs.Scoped.{is_scoped, parameter_counts}
@@ -13,6 +13,8 @@ use Rattle.rx_io.specs.Outside.{HoldsBytes, HoldsMore, IsMissing, Names}
 use Rattle.rx_command.specs.Commands.{Check, Comparison, Functions, Prove, Refute}
 use Rattle.rx_translate.specs.declared.translation.Translation.{Translation}
 use Rattle.rx_plain.specs.Formed.{Formed}
+use Rattle.rx_log.specs.declared.log.Log.{Log}
+use Rattle.rx_moves.specs.Moves.{Move, move_of}
 use Rattle.rx_search.specs.declared.search_end.SearchEnd.{SearchEnd}
 use Rattle.rx_search.specs.declared.search_end.SearchEnd.TheVariants as search_end
 use Rattle.std.specs.declared.alloc.Global.{Global}
@@ -69,11 +71,25 @@ IsNotDeep (Prove f effort) = effort.depth ≤ 12
 IsNotDeep (Check f log) = ⊤
 IsNotDeep (Refute f extent) = ⊤
 
+-- the moves of a log's steps
+abbrev pub moves_of : Log → List Move
+moves_of log = map move_of log.steps
+
+-- the wider search follows a search that ended so
+abbrev pub is_open : SearchEnd → Bool
+is_open search_end.NoRanks = false
+is_open (search_end.LargeRanks rows) = false
+is_open (search_end.NoPlan depth) = true
+is_open (search_end.Spent visits) = false
+is_open (search_end.Large path rows) = true
+is_open search_end.NoMemory = false
+
 -- the verdict that names how a search ended without a log; out of memory has none
 abbrev pub SaysEnd : SearchEnd → Verdict → Type 0
 SaysEnd search_end.NoRanks verdict = verdict ≡ Said.NoRanks
 SaysEnd (search_end.NoPlan depth) verdict = verdict ≡ Said.Depth depth
 SaysEnd (search_end.Spent visits) verdict = verdict ≡ Said.Visits visits
+SaysEnd (search_end.LargeRanks rows) verdict = verdict ≡ Said.LargeSearch
 SaysEnd (search_end.Large path rows) verdict = verdict ≡ Said.LargeSearch
 SaysEnd search_end.NoMemory verdict = ⊥
 

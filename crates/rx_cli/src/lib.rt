@@ -16,4 +16,4 @@ pub use in_memory::run_in_memory;
 pub use laws::{counterexamples_exclude_proofs, words_have_one_report, written_logs_are_accepted};
 pub use rx_plain::NoMemory;
 pub use rx_report::{Status, Verdict, report};
-pub use top::run;
+pub use top::{Ending, run, run_told};

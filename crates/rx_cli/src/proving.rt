@@ -1,15 +1,22 @@
 //! The search for a proof.
-ghost use Rattle.std.specs.Prelude.{◌≡◌, ◌≤◌, true, length, IfOk};
+ghost use Rattle.std.specs.Prelude.{◌≡◌, ◌≤◌, [], true, length, option_map, IfOk, IfSome};
 ghost use Rattle.rx_command.specs.Commands.{functions_view, is_short};
 ghost use Rattle.rx_cache.specs.CachedSolver.{IsCachedSolver};
 ghost use Rattle.rx_find_cover.specs.Coverable.{is_coverable};
 ghost use Rattle.rx_proofs.specs.Goals.{IsFitting};
 ghost use Rattle.rx_log.specs.Depth.{is_shallow_log};
 ghost use Rattle.rx_logtext.specs.Logs.{IsLog};
-ghost use Rattle.rx_solve.specs.Answers.{Answers};
+ghost use Rattle.rx_log.specs.Acceptance.{IsAccepted};
+ghost use Rattle.rx_cert.specs.Findings.{Yes};
+ghost use Rattle.rx_pairs.specs.Pairs.{AreAllPairs};
+ghost use Rattle.rx_rank.specs.Ranking.{ranked};
+ghost use Rattle.rx_search.specs.Ends.{IsEnd};
+ghost use Rattle.rx_search.specs.Search.{searched};
+ghost use Rattle.rx_solve.specs.Answers.{Answers, IsSolver};
+ghost use Rattle.rx_wider.specs.Wider.{wider};
 ghost use Rattle.rx_report.specs.Reports.{IsReportable};
 ghost use Rattle.rx_cli.specs.Proofs.{IsProved, OnProblem};
-ghost use Rattle.rx_cli.specs.Steps.{SaysEnd};
+ghost use Rattle.rx_cli.specs.Steps.{SaysEnd, is_open, moves_of};
 ghost use Rattle.rx_report.specs.Texts.{IsReportableVerdict};
 
 use crate::problems::{Problem, ask};
@@ -18,13 +25,16 @@ use rx_cache::CachedSolver;
 use rx_cert::Cert;
 use rx_command::{Effort, Functions};
 use rx_fm::FmEnd;
+use rx_has_ranks::RankMemo;
 use rx_log::Log;
 use rx_logwriting::{LogEnd, write_log};
+use rx_pairs::Pair;
 use rx_plain::{Items, NoMemory};
 use rx_report::{Answer, Verdict};
 use rx_row::Constraint;
-use rx_search::{Search, SearchEnd};
+use rx_search::{MOST_KEPT, SearchEnd, log_of, rule_pairs, search_with};
 use rx_solve::refutes;
+use rx_wider::wider_search;
 use std::alloc::Global;
 
 /// The text of a log in which nothing is too deep for one. Where the log has no text for another
@@ -49,6 +59,7 @@ fn verdict_on(end: &SearchEnd) -> Result<Verdict, NoMemory>
 {
     match end {
         SearchEnd::NoRanks => Ok(Verdict::NoRanks),
+        SearchEnd::LargeRanks { rows: _ } => Ok(Verdict::LargeSearch),
         SearchEnd::NoPlan { depth } => Ok(Verdict::Depth(*depth)),
         SearchEnd::Spent { visits } => Ok(Verdict::Visits(*visits)),
         SearchEnd::Large { path: _, rows: _ } => Ok(Verdict::LargeSearch),
@@ -56,8 +67,126 @@ fn verdict_on(end: &SearchEnd) -> Result<Verdict, NoMemory>
     }
 }
 
+/// Whether the wider search follows a search that ended so.
+fn is_open(end: &SearchEnd) -> bool
+    ensures { result ≡ is_open end.now }
+{
+    match end {
+        SearchEnd::NoPlan { depth: _ } => true,
+        SearchEnd::Large { path: _, rows: _ } => true,
+        _ => false,
+    }
+}
+
+/// The log of what the wider search finds, if it finds a proof.
+fn wider_log<S: FnMut(&Constraint) -> Result<Option<Cert>, FmEnd>>(
+    alloc: Global,
+    problem: &Problem,
+    effort: Effort,
+    pairs: &[Pair],
+    ranks: &mut RankMemo,
+    solve: &mut S,
+) -> Result<Option<Log>, NoMemory>
+    requires fits { IsFitting problem.now.rules problem.now.goal }
+    requires coverable { is_coverable problem.now.rules ≡ true }
+    requires ranked { ranked problem.now.rules [] ≡ Yes }
+    requires pairs { AreAllPairs problem.now.rules.rules pairs.now }
+    requires solver { IsSolver S.FnMut solve.old }
+    ensures solver { IsSolver S.FnMut solve.new }
+    ensures found { IfOk result (λ o. option_map moves_of o ≡
+        wider problem.now.rules problem.now.goal effort.depth effort.budget) }
+    ensures accepted { IfOk result (λ o.
+        IfSome o (IsAccepted problem.now.rules problem.now.goal)) }
+    ensures shallow { IfOk result (λ o. IfSome o (λ log. is_shallow_log log ≡ true)) }
+{
+    let Problem { rules, goal } = problem;
+    let found = wider_search(
+        alloc,
+        rules,
+        pairs,
+        goal,
+        effort.depth,
+        effort.budget,
+        ranks,
+        solve,
+    )?;
+    match found {
+        Some(node) => {
+            let steps = node.steps.as_slice();
+            let hypotheses = node.at.state.hypotheses();
+            let log = log_of(alloc, rules, steps, hypotheses, ranks, solve)?;
+            Ok(Some(log))
+        }
+        None => Ok(None),
+    }
+}
+
+/// The answer where the stated search ended without a log: the wider search may follow.
+fn search_on<S: FnMut(&Constraint) -> Result<Option<Cert>, FmEnd>>(
+    alloc: Global,
+    problem: &Problem,
+    effort: Effort,
+    pairs: &[Pair],
+    end: &SearchEnd,
+    ranks: &mut RankMemo,
+    solve: &mut S,
+) -> Result<Answer, NoMemory>
+    requires fits { IsFitting problem.now.rules problem.now.goal }
+    requires coverable { is_coverable problem.now.rules ≡ true }
+    requires ended { IsEnd effort.depth effort.budget
+        (searched problem.now.rules problem.now.goal effort.depth effort.budget) end.now }
+    requires pairs { AreAllPairs problem.now.rules.rules pairs.now }
+    requires solver { IsSolver S.FnMut solve.old }
+    ensures solver { IsSolver S.FnMut solve.new }
+    ensures answer { IfOk result (OnProblem problem.now effort) }
+    ensures reportable { IfOk result IsReportable }
+{
+    if !is_open(end) {
+        return Ok(Answer::Line(verdict_on(end)?));
+    }
+    match wider_log(alloc, problem, effort, pairs, ranks, solve)? {
+        Some(log) => Ok(Answer::Proof(proof_text(alloc, &log)?)),
+        None => Ok(Answer::Line(verdict_on(end)?)),
+    }
+}
+
+/// Searches for a proof that solves a problem: the stated search comes first.
+fn search_by<S: FnMut(&Constraint) -> Result<Option<Cert>, FmEnd>>(
+    alloc: Global,
+    problem: &Problem,
+    effort: Effort,
+    solve: &mut S,
+) -> Result<Answer, NoMemory>
+    requires fits { IsFitting problem.now.rules problem.now.goal }
+    requires coverable { is_coverable problem.now.rules ≡ true }
+    requires solver { IsSolver S.FnMut solve.old }
+    ensures solver { IsSolver S.FnMut solve.new }
+    ensures answer { IfOk result (OnProblem problem.now effort) }
+    ensures reportable { IfOk result IsReportable }
+{
+    let Problem { rules, goal } = problem;
+    let mut ranks = RankMemo::new(alloc);
+    let all = rule_pairs(alloc, rules)?;
+    let pairs = all.as_slice();
+    let found = search_with(
+        alloc,
+        rules,
+        pairs,
+        goal,
+        effort.depth,
+        effort.budget,
+        MOST_KEPT,
+        &mut ranks,
+        solve,
+    );
+    match found {
+        Ok(log) => Ok(Answer::Proof(proof_text(alloc, &log)?)),
+        Err(end) => search_on(alloc, problem, effort, pairs, &end, &mut ranks, solve),
+    }
+}
+
 /// Searches for a proof that solves a problem, with the answers of a cached solver.
-fn search_with<S: FnMut(&Constraint) -> Result<Option<Cert>, FmEnd>>(
+fn search_cached<S: FnMut(&Constraint) -> Result<Option<Cert>, FmEnd>>(
     alloc: Global,
     problem: &Problem,
     effort: Effort,
@@ -68,23 +197,16 @@ where
     requires known { IsCachedSolver S.FnMut cached }
     requires fits { IsFitting problem.now.rules problem.now.goal }
     requires coverable { is_coverable problem.now.rules ≡ true }
-    requires depth { effort.depth ≤ 12 }
     ensures answer { IfOk result (OnProblem problem.now effort) }
     ensures reportable { IfOk result IsReportable }
 {
-    let Problem { rules, goal } = problem;
     let mut cached = cached;
-    let mut search = Search::new(
-        move |rows: &Constraint| -> Result<Option<Cert>, FmEnd>
-            requires { IsCachedSolver S.FnMut cached }
-            ensures known { IsCachedSolver S.FnMut cached.exit }
-            ensures answer { Answers rows.now result }
-        { cached.refutes(rows) },
-    );
-    match search.search(alloc, rules, goal, effort.depth, effort.budget) {
-        Ok(log) => Ok(Answer::Proof(proof_text(alloc, &log)?)),
-        Err(end) => Ok(Answer::Line(verdict_on(&end)?)),
-    }
+    let mut solve = move |rows: &Constraint| -> Result<Option<Cert>, FmEnd>
+        requires { IsCachedSolver S.FnMut cached }
+        ensures known { IsCachedSolver S.FnMut cached.exit }
+        ensures answer { Answers rows.now result }
+    { cached.refutes(rows) };
+    search_by(alloc, problem, effort, &mut solve)
 }
 
 /// How many answers of the refuter are kept.
@@ -100,7 +222,7 @@ fn on_problem(alloc: Global, problem: &Problem, effort: Effort) -> Result<Answer
 {
     let solve = |rows: &Constraint| refutes(alloc, rows);
     let cached = CachedSolver::new(alloc, solve, CACHED_ANSWERS)?;
-    search_with(alloc, problem, effort, cached)
+    search_cached(alloc, problem, effort, cached)
 }
 
 /// Searches for a proof that the two named functions of a text return the same, as far as the

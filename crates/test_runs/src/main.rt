@@ -11,6 +11,7 @@
 
 mod cli_answers;
 mod files;
+mod messages;
 mod report_answers;
 mod run_files;
 mod running;

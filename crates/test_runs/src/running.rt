@@ -34,14 +34,14 @@ fn all_lines(alloc: Global, status: Status, text: &[u8]) -> Option<String> {
 }
 
 // A file in memory of which no call fails.
-fn plain_file(alloc: Global, source: Vec<u8>) -> Option<MemoryFiles>
+pub(crate) fn plain_file(alloc: Global, source: Vec<u8>) -> Option<MemoryFiles>
     ensures { IfSome result (λ files. held.fail_in files ≡ []) }
 {
     one_file(alloc, source, 4096, Vec::new(alloc))
 }
 
 // A sink in memory of which no call fails.
-fn plain_sink(alloc: Global) -> Option<MemorySink>
+pub(crate) fn plain_sink(alloc: Global) -> Option<MemorySink>
     ensures fail { IfSome result (λ sink. taken.fail_in sink ≡ []) }
     ensures zero { IfSome result (λ sink. taken.zero_in sink ≡ []) }
 {

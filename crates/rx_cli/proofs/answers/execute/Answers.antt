@@ -1,7 +1,7 @@
 -- What the words ask for is answered.
-use Rattle.std.proofs.Common.{◌≡◌, None, Option, Some, inl, map, rules, string_bytes, subst}
+use Rattle.std.proofs.Common.{◌≡◌, None, Option, Some, inl, map, string_bytes, subst}
 use Rattle.std.proofs.lemmas.Result.{IfOk-weaker}
-use Rattle.rx_command.specs.Commands.{Command, Compare, Demo, command_of, command_view, comparison_view}
+use Rattle.rx_command.specs.Commands.{Command, Compare, Demo, command_of, comparison_view}
 use Rattle.rx_io.specs.Outside.{Rose}
 use Rattle.rx_cli.specs.Answers.{AnswersOrFails}
 use Rattle.rx_cli.proofs.AnswerLemmas.{answers_usage}

@@ -1,4 +1,4 @@
-use Rattle.std.proofs.Common.{◌≡◌, ap, refl, subst, Err}
+use Rattle.std.proofs.Common.{ap, refl, subst, Err}
 use Rattle.c_refute.specs.Points.{IsComparison, finding_at}
 use Rattle.rx_cli.specs.Refutations.{arity_in, points_in}
 use Rattle.rx_cli.proofs.Comparisons.{on_found, on_many}

@@ -2,9 +2,9 @@
 use Rattle.std.proofs.Common.{rules}
 use Rattle.rx_solve.proofs.Calls.{solver_while}
 use Rattle.rx_cache.specs.CachedSolver.{IsCachedSolver}
-use Rattle.rx_cli.proofs.proving.search_with.Goals as goal
+use Rattle.rx_cli.proofs.proving.search_cached.Goals as goal
 
-pub new-search-requires : goal.new-search-requires
-new-search-requires g c =
+pub search_by-requires-clause-solver : goal.search_by-requires-clause-solver
+search_by-requires-clause-solver g c =
     solver_while _ (λ h. IsCachedSolver g.S.FnMut h.0) (λ h a i. search rules)
     (λ h a r h' k i. search rules) _ c.requires.known

@@ -1,0 +1,53 @@
+-- What a run tells beside its status is what it reported.
+use Rattle.std.specs.Prelude.{◌≡◌, ℕ, List, Option, MatchOption, ⊤}
+use Rattle.std.proofs.Common.{refl, subst, sym}
+use Rattle.std.specs.Io.KnownBytes.{Appends}
+use Rattle.c_refute.specs.declared.findings.Compared.{Compared}
+use Rattle.c_refute.specs.declared.findings.Compared.TheVariants as found
+use Rattle.rx_report.specs.Ends.{found_status, status_in}
+use Rattle.rx_report.specs.Reports.{IsReportable, text_in}
+use Rattle.rx_report.specs.Texts.{IsReportableVerdict}
+use Rattle.rx_report.specs.declared.answer.Answer.{Answer}
+use Rattle.rx_report.specs.declared.answer.Answer.TheVariants.{Line, Proof, Found}
+use Rattle.rx_report.specs.declared.ends.Status.{Status}
+use Rattle.rx_report.specs.declared.verdicts.Verdict.{Verdict}
+use Rattle.rx_cli.specs.Told.{MayLackLine, Tells, line_in}
+
+-- a comparison over points is no line of a verdict
+found_lacks : (found : Compared) → MayLackLine (found_status found)
+found_lacks (found.Different arguments first second) = tt
+found_lacks (found.Alike points undecided) = tt
+
+-- what is told where the whole report was written
+told_of : (old new : Option (List ℕ)) (answer : Answer) → IsReportable answer →
+    Appends old new (text_in answer) →
+    Tells old new (record { status = status_in answer; verdict = line_in answer })
+told_of old new (Line verdict) reportable written =
+    record { reportable = reportable; status_is = refl; written = written }
+told_of old new (Proof text) reportable written = tt
+told_of old new (Found found) reportable written = found_lacks found
+
+-- the same, by what the calls answered
+pub told_as : (old new : Option (List ℕ)) (answer : Answer) (status : Status)
+    (verdict : Option Verdict) (text : List ℕ) →
+    IsReportable answer → status ≡ status_in answer → verdict ≡ line_in answer →
+    text ≡ text_in answer → Appends old new text →
+    Tells old new (record { status = status; verdict = verdict })
+told_as old new answer status verdict text reportable is_status is_verdict is_text written =
+    let P : Status → Type 0 = λ s. Tells old new (record { status = s; verdict = verdict }) in
+    let Q : Option Verdict → Type 0 =
+    λ v. Tells old new (record { status = status_in answer; verdict = v }) in
+    subst P (sym is_status) (subst Q (sym is_verdict)
+    (told_of old new answer reportable (subst (λ t. Appends old new t) is_text written)))
+
+-- what is told has a line
+pub reportable_line : (answer : Answer) (verdict : Option Verdict) → IsReportable answer →
+    verdict ≡ line_in answer → MatchOption verdict ⊤ IsReportableVerdict
+reportable_line answer verdict reportable is_verdict =
+    subst (λ v. MatchOption v ⊤ IsReportableVerdict) (sym is_verdict) (of_answer answer reportable)
+  where
+    of_answer : (answer : Answer) → IsReportable answer →
+        MatchOption (line_in answer) ⊤ IsReportableVerdict
+    of_answer (Line verdict) reportable = reportable
+    of_answer (Proof text) reportable = tt
+    of_answer (Found found) reportable = tt
