@@ -28,7 +28,8 @@ use Rattle.rx_lemma.specs.Naming.{naming_of}
 use Rattle.rx_lemma.specs.Lemmas.{Generalisation}
 use Rattle.rx_match.specs.Matching.{use_of}
 use Rattle.rx_moves.specs.Moves.{Absurd, Equal, Expand, Generalise, Hyp, Move, Results, Simplify, step_of}
-use Rattle.rx_settle.specs.Settling.{by_results, named, resulting, resulting_at, settling, settling_first, settling_move, using_at, using_each, variables_end}
+use Rattle.rx_lemma.specs.Lemmas.{variables_end}
+use Rattle.rx_settle.specs.Settling.{by_results, named, resulting, resulting_at, settling, settling_first, settling_move, using_at, using_each}
 use Rattle.rx_moves.specs.Unfolding.{by_rules, is_at_loop_point, is_tried, leaving_at, redex_symbol, simplifying, unfolding_at}
 use Rattle.rx_moves.specs.Suffixes.{common_suffix}
 use Rattle.rx_moves.specs.Trying.{Next, asked_shown, attempt, next_if_formed, then_by}

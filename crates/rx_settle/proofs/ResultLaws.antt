@@ -9,7 +9,8 @@ use Rattle.rx_term.specs.declared.rule_set.RuleParts.{RuleParts}
 use Rattle.rx_inference.specs.States.{State}
 use Rattle.rx_settle.specs.Answers.{IsTrial}
 use Rattle.rx_settle.specs.AtFirst.{at_first}
-use Rattle.rx_settle.specs.Settling.{by_results, resulting, resulting_at, variables_end}
+use Rattle.rx_lemma.specs.Lemmas.{variables_end}
+use Rattle.rx_settle.specs.Settling.{by_results, resulting, resulting_at}
 use Rattle.rx_moves.specs.Suffixes.{common_suffix}
 use Rattle.rx_moves.specs.Trying.{Next, noting}
 use Rattle.rx_moves.specs.declared.finding.Common.{Common}

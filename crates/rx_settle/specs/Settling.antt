@@ -15,7 +15,7 @@ use Rattle.rx_inference.specs.States.{State}
 use Rattle.rx_inference.specs.declared.step.Side.{Side}
 use Rattle.rx_inference.specs.declared.step.Side.TheVariants.{Left, Right}
 use Rattle.rx_lemma.specs.Naming.{naming_of}
-use Rattle.rx_lemma.specs.Lemmas.{Generalisation}
+use Rattle.rx_lemma.specs.Lemmas.{Generalisation, variables_end}
 use Rattle.rx_match.specs.Matching.{use_of}
 use Rattle.rx_moves.specs.Moves.{Move, Hyp, Absurd, Equal, Generalise, Results}
 use Rattle.rx_moves.specs.Suffixes.{common_suffix}
@@ -24,10 +24,6 @@ use Rattle.rx_moves.specs.Trying.{Next, attempt, noting, then_try}
 use Rattle.rx_moves.specs.Unfolding.{leaving_at, redex_symbol, unfolding_at}
 
 -- ---- moves
-
--- a step doesn't apply for which a variable of this number or above would be needed
-abbrev pub variables_end : ℕ
-variables_end = 1000000
 
 module _ (parts : RuleParts) (state : State) where
   -- constants of calls become variables

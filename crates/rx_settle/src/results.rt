@@ -2,7 +2,8 @@
 ghost use Rattle.std.specs.Prelude.{◌≡◌, ◌==◌, if◌then◌else◌, nat_lt, IfOk, OnErr};
 ghost use Rattle.rx_settle.specs.Answers.{IsTrial};
 ghost use Rattle.rx_settle.specs.AtFirst.{at_first};
-ghost use Rattle.rx_settle.specs.Settling.{by_results, resulting_at, variables_end};
+ghost use Rattle.rx_lemma.specs.Lemmas.{variables_end};
+ghost use Rattle.rx_settle.specs.Settling.{by_results, resulting_at};
 ghost use Rattle.rx_solve.specs.Answers.{IsSolver};
 ghost use Rattle.rx_solve.specs.Attempts.{fails};
 ghost use Rattle.rx_term.specs.Bounds.{equation_bound};
@@ -13,15 +14,13 @@ use crate::trying::try_step;
 use rx_cert::Cert;
 use rx_fm::FmEnd;
 use rx_inference::Step;
+use rx_lemma::VARIABLES_END;
 use rx_moves::{Suffix, find_suffix};
 use rx_plain::{Items, NoMemory};
 use rx_row::Constraint;
 use rx_steps::State;
 use rx_term::{Equation, RuleSet};
 use std::alloc::Global;
-
-/// No step is taken for which a variable of this number or above would be needed.
-const VARIABLES_END: u64 = 1_000_000;
 
 /// Whether the least variable above all of the goal may be used.
 fn has_fresh_variable(goal: &Equation) -> bool

@@ -80,8 +80,9 @@ impl RuleParts {
         }
     }
 
-    /// Whether the rule is well made over these symbols.
-    fn is_made(&self, rule: &Rule) -> bool
+    /// Whether the rule is well made: on its left side stand the variables 0, 1, .. in order, each
+    /// alone, its terms fit these symbols, and nothing in it has another variable. Takes no memory.
+    pub fn is_made(&self, rule: &Rule) -> bool
         ensures { result ≡ is_made self.now rule.now }
     {
         match left_width(&rule.left) {
