@@ -4,8 +4,8 @@
 
    Half of the runs are `check` of a changed log: where the functions differ, or the log is that of other
    functions, none may end with EQUIVALENT. The other half are `check`, `prove` and `refute` of a changed source
-   with a small effort. Each run has to end by itself with a status from 0 to 8 and nothing on standard error. The
-   last line says how many ended with each status; what ends otherwise is kept in the folder that is printed. */
+   with a small effort. Each run has to end by itself with a status from 0 to 8, and with something on standard
+   error exactly where the status isn't 0. The last line says how many ended with each status; what ends otherwise is kept in the folder that is printed. */
 #define _GNU_SOURCE
 #include <fcntl.h>
 #include <spawn.h>
@@ -163,8 +163,8 @@ int main(int count, char **words)
         put("a.c", log ? p->source : text, log ? strlen(p->source) : size);
         put("log", log ? text : p->log, log ? size : p->size);
         status = run(call, "out", "err");
-        int well = WIFEXITED(status) && WEXITSTATUS(status) < STATUSES && stat("err", &err) == 0 && err.st_size == 0
-            && !(log && p->differ && WEXITSTATUS(status) == 0);
+        int well = WIFEXITED(status) && WEXITSTATUS(status) < STATUSES && stat("err", &err) == 0
+            && (err.st_size == 0) == (WEXITSTATUS(status) == 0) && !(log && p->differ && WEXITSTATUS(status) == 0);
         if (WIFEXITED(status) && WEXITSTATUS(status) < STATUSES) ended[WEXITSTATUS(status)]++;
         if (!well) {
             char name[32];
