@@ -80,23 +80,28 @@ module _ {L P : Type 0} (order : Order L P) where
 
     -- ---- one line more
 
-    pub one_taken : {texts : List (List ℕ)} {place next : P} {bytes : List ℕ} (line : L) →
-        LeadsTo order texts place → IsText order.format bytes line → order.after place line ≡
-        Some next → LeadsTo order (texts ++ bytes ∷ []) next
-    one_taken {texts} {place} {next} {bytes} line h t leads = record {
-      lines = h.lines ++ line ∷ [];
-      in_range =
-          list_all-append in_range h.lines (line ∷ []) ∙
-          and_from (list_all in_range h.lines) (in_range line && true) h.in_range
-          (and_from (in_range line) true t.in_range refl);
-      are =
-          map-append text h.lines (line ∷ []) ∙
-          ap (λ (ts : List (List ℕ)). ts ++ text line ∷ []) h.are ∙
-          ap (λ (b : List ℕ). texts ++ b ∷ []) (sym t.text);
-      arrives =
-          after_all-append order.after (Some order.start) h.lines (line ∷ []) ∙
-          ap (λ (at : Option P). after_all order.after at (line ∷ [])) h.arrives ∙ leads;
-    }
+    -- lines that lead to a place, and one that may come there
+    pub one_taken : {texts : List (List ℕ)} {place next : P} {bytes : List ℕ} (line : L)
+        (h : LeadsTo order texts place) → IsText order.format bytes line →
+        order.after place line ≡ Some next → (more : LeadsTo order (texts ++ bytes ∷ []) next) ×
+        (more.lines ≡ h.lines ++ line ∷ [])
+    one_taken {texts} {place} {next} {bytes} line h t leads = (
+      record {
+        lines = h.lines ++ line ∷ [];
+        in_range =
+            list_all-append in_range h.lines (line ∷ []) ∙
+            and_from (list_all in_range h.lines) (in_range line && true) h.in_range
+            (and_from (in_range line) true t.in_range refl);
+        are =
+            map-append text h.lines (line ∷ []) ∙
+            ap (λ (ts : List (List ℕ)). ts ++ text line ∷ []) h.are ∙
+            ap (λ (b : List ℕ). texts ++ b ∷ []) (sym t.text);
+        arrives =
+            after_all-append order.after (Some order.start) h.lines (line ∷ []) ∙
+            ap (λ (at : Option P). after_all order.after at (line ∷ [])) h.arrives ∙ leads;
+      },
+      refl,
+    )
 
     -- some whole text begins with lines that lead to a place
     pub leads_begin : {texts : List (List ℕ)} {place : P} → LeadsTo order texts place →
