@@ -1,35 +1,12 @@
--- What a reader of a rule text keeps between two lines: the place, and what the lines so far said;
--- and how it reads the line of a symbol.
+-- What a reader of a rule text keeps between two lines: the place, and what the lines so far said.
 use Rattle.std.specs.Prelude.{◌≡◌, ℕ, Option, Some, None, List, [], ◌∷◌, ◌++◌, length}
 use Rattle.rx_term.specs.declared.rule.Equation.{Equation}
-use Rattle.rx_text.specs.Formats.{Format}
-use Rattle.rx_words.specs.Words.{pairs, words}
-use Rattle.rx_rulefile.specs.RuleLines.{arities, has_kind, kind_text, symbol_numbers}
 use Rattle.rx_rulefile.specs.RuleTexts.{set_lines}
 use Rattle.rx_rulefile.specs.declared.gathered.Gathered.{Gathered}
-use Rattle.rx_rulefile.specs.declared.kinds.Kind.{Kind}
 use Rattle.rx_rulefile.specs.declared.place.Place.{Place}
 use Rattle.rx_rulefile.specs.declared.place.Place.TheVariants.{AtHeader, AtFails, InSymbols, InRules, AtEnd, Finished}
 use Rattle.rx_rulefile.specs.declared.rule_line.RuleLine.{RuleLine}
 use Rattle.rx_rulefile.specs.declared.rule_line.RuleLine.TheVariants as line
-
--- ---- symbols
-
--- what symbols are, as words
-abbrev pub kinds : Format Kind
-kinds =
-    words (λ kind. kind_text kind.frame kind.entry kind.head)
-    (λ kind. has_kind kind.frame kind.entry kind.head)
-
--- how many arguments, and what it is
-abbrev pub shapes : Format (ℕ × Kind)
-shapes = pairs arities kinds
-
--- the number in front of that
-abbrev pub symbols : Format (ℕ × (ℕ × Kind))
-symbols = pairs symbol_numbers shapes
-
--- ---- what was gathered
 
 -- nothing yet
 abbrev pub blank : Gathered

@@ -5,3 +5,4 @@ pub mod Places
 pub mod Reading
 pub mod RuleLines
 pub mod RuleTexts
+pub mod SymbolParts

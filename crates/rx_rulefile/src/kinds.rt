@@ -1,7 +1,7 @@
 //! What a symbol is, as a word.
 ghost use Rattle.std.specs.Prelude.{◌≡◌, false};
 ghost use Rattle.rx_text.specs.Formats.{Reads};
-ghost use Rattle.rx_rulefile.specs.Gathering as spec;
+ghost use Rattle.rx_rulefile.specs.SymbolParts as spec;
 
 use rx_lines::skip_whole;
 

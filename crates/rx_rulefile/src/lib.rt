@@ -12,7 +12,9 @@ mod rule_end;
 mod rule_line;
 mod writing;
 
-pub use laws::a_text_has_one_reading;
+pub use laws::{
+    a_text_has_one_reading, the_lines_of_rule_texts_are_in_order, what_is_not_unmade_is_well_made,
+};
 pub use line_reading::read_line;
 pub use place::Place;
 pub use reading::read_rules;

@@ -3,9 +3,9 @@ ghost use Rattle.std.specs.Prelude.{◌≡◌, ◌++◌, codes, drop, IfOk};
 ghost use Rattle.rx_lines.specs.Orders.{ReadsNext};
 ghost use Rattle.rx_lines.specs.Texts.{ReadsAll};
 ghost use Rattle.rx_text.specs.Formats.{Reads};
-ghost use Rattle.rx_rulefile.specs.Gathering as spec;
+ghost use Rattle.rx_rulefile.specs.SymbolParts as spec;
 ghost use Rattle.rx_rulefile.specs.Places.{rule_order};
-ghost use Rattle.rx_rulefile.specs.RuleLines.{lines};
+ghost use Rattle.rx_rulefile.specs.RuleLines.{arities, fail_codes, lines, symbol_numbers};
 
 use crate::kinds::{Kind, read_kind};
 use crate::place::Place;
@@ -18,18 +18,33 @@ use rx_text::{read_natural, skip_word};
 use rx_words::ending_word;
 use std::alloc::Global;
 
-/// The greatest number of a symbol.
-const LAST_SYMBOL: u32 = 4095;
+/// The greatest failure code whose text is the word at the place, and the place after it.
+fn read_fail_code(bytes: &[u8], at: usize) -> Option<(u32, usize)>
+    ensures { Reads fail_codes bytes.now at result }
+{
+    ending_word(bytes, read_natural(bytes, at, 255))
+}
 
-/// How many arguments a symbol may have.
-const MOST_ARGUMENTS: u32 = 128;
+/// The number of a symbol whose text is the word at the place, and the place after it.
+fn read_symbol_number(bytes: &[u8], at: usize) -> Option<(u32, usize)>
+    ensures { Reads symbol_numbers bytes.now at result }
+{
+    ending_word(bytes, read_natural(bytes, at, 4095))
+}
+
+/// The number of arguments whose text is the word at the place, and the place after it.
+fn read_arity(bytes: &[u8], at: usize) -> Option<(u32, usize)>
+    ensures { Reads arities bytes.now at result }
+{
+    ending_word(bytes, read_natural(bytes, at, 128))
+}
 
 /// A line that begins with `fails `.
 fn read_fails(line: &[u8], at: usize) -> Option<RuleLine>
     requires { line.now ≡ codes "fails " ++ drop at line.now }
     ensures { ReadsAll lines line.now result }
 {
-    match up_to_end(line, ending_word(line, read_natural(line, at, 255))) {
+    match up_to_end(line, read_fail_code(line, at)) {
         Some(fails) => Some(RuleLine::Fails(fails as u8)),
         None => None,
     }
@@ -39,20 +54,32 @@ fn read_fails(line: &[u8], at: usize) -> Option<RuleLine>
 fn read_shape(bytes: &[u8], at: usize) -> Option<((u32, Kind), usize)>
     ensures { Reads spec.shapes bytes.now at result }
 {
-    let (arity, middle) = ending_word(bytes, read_natural(bytes, at, MOST_ARGUMENTS))?;
-    let next = skip_word(bytes, middle, b" ")?;
-    let (kind, end) = read_kind(bytes, next)?;
-    Some(((arity, kind), end))
+    let Some((arity, middle)) = read_arity(bytes, at) else {
+        return None;
+    };
+    let Some(next) = skip_word(bytes, middle, b" ") else {
+        return None;
+    };
+    match read_kind(bytes, next) {
+        Some((kind, end)) => Some(((arity, kind), end)),
+        None => None,
+    }
 }
 
 /// The number of a symbol, and what comes after it.
 fn read_numbered(bytes: &[u8], at: usize) -> Option<((u32, (u32, Kind)), usize)>
     ensures { Reads spec.symbols bytes.now at result }
 {
-    let (number, middle) = ending_word(bytes, read_natural(bytes, at, LAST_SYMBOL))?;
-    let next = skip_word(bytes, middle, b" ")?;
-    let (shape, end) = read_shape(bytes, next)?;
-    Some(((number, shape), end))
+    let Some((number, middle)) = read_symbol_number(bytes, at) else {
+        return None;
+    };
+    let Some(next) = skip_word(bytes, middle, b" ") else {
+        return None;
+    };
+    match read_shape(bytes, next) {
+        Some((shape, end)) => Some(((number, shape), end)),
+        None => None,
+    }
 }
 
 /// A line that begins with `symbol s`.

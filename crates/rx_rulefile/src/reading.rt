@@ -1,5 +1,5 @@
 //! Rule texts, read.
-ghost use Rattle.std.specs.Prelude.{◌≡◌};
+ghost use Rattle.std.specs.Prelude.{◌≡◌, ◌↔◌, [], IsTrue};
 ghost use Rattle.rx_rulefile.specs.Reading.{ReadsParts, ReadsRules};
 
 use crate::gathered::Gathered;
@@ -10,6 +10,16 @@ use crate::rule_end::RuleEnd;
 use rx_lines::split_line;
 use rx_term::{Equation, RuleParts, RuleSet};
 use std::alloc::Global;
+
+/// Whether lines that lead to the place are a whole text, where these bytes are left after them.
+fn is_whole(place: Place, left: &[u8]) -> bool
+    ensures { IsTrue result ↔ ((place ≡ Place.Finished) × (left.now ≡ [])) }
+{
+    match place {
+        Place::Finished => left.is_empty(),
+        _ => false,
+    }
+}
 
 /// The parts of the rule set and the equation whose text this is; BadLine with the number of the
 /// first line with which no rule text begins.
@@ -29,20 +39,23 @@ fn read_parts(alloc: Global, text: &[u8]) -> Result<(RuleParts, Equation), RuleE
         taken += 1;
         left = rest;
     }
+    if !is_whole(place, left) {
+        return Err(RuleEnd::BadLine { line: taken + 1 });
+    }
     let Gathered { parts, goal } = gathered;
-    match (place, goal) {
-        (Place::Finished, Some(goal)) if left.is_empty() => Ok((parts, goal)),
-        _ => Err(RuleEnd::BadLine { line: taken + 1 }),
+    match goal {
+        Some(goal) => Ok((parts, goal)),
+        None => unreachable!(),
     }
 }
 
 /// The rule set and the equation whose text this is.
 ///
 /// BadLine with the number of the first line with which no rule text begins, counted from 1: so it
-/// is where the text ends too early, or not in a line feed. NotMade, where all lines are good, with
-/// the number of the first rule that isn't well made, counted from 0, or with the number of rules
-/// where the equation doesn't fit the symbols. Fails else only when out of memory. Time is linear in
-/// the text.
+/// is where the text ends too early, or where bytes without a line feed are left at its end. NotMade,
+/// where all lines are good, with the number of the first rule that isn't well made, counted from 0,
+/// or with the number of rules where all are and the equation doesn't fit the symbols. Fails else
+/// only when out of memory. Time is linear in the text.
 pub fn read_rules(alloc: Global, text: &[u8]) -> Result<(RuleSet, Equation), RuleEnd>
     ensures { ReadsRules text.now result }
 {

@@ -1,5 +1,5 @@
 //! Rule texts, written.
-ghost use Rattle.std.specs.Prelude.{◌≡◌, ◌≤◌, ◌^◌, ◌++◌, ◌∷◌, [], true, length, map, IfOk, OnOk};
+ghost use Rattle.std.specs.Prelude.{◌≡◌, ◌++◌, ◌∷◌, [], true, map, IfOk, OnOk};
 ghost use Rattle.std.specs.List.{list_all};
 ghost use Rattle.rx_lines.specs.Texts.{ended};
 ghost use Rattle.rx_rulefile.specs.RuleLines.{kind_text, lines};
@@ -10,6 +10,7 @@ use rx_plain::{Items, NoMemory};
 use rx_term::{Equation, Rule, RuleSet, SymInfo};
 use rx_term_words::push_equation;
 use rx_text::{push_natural, push_word};
+use rx_words::push_count;
 use std::alloc::Global;
 
 /// What the symbol is, as a word.
@@ -29,12 +30,12 @@ fn push_kind(info: &SymInfo, out: &mut Vec<u8>) -> Result<(), NoMemory>
 }
 
 /// The line of a symbol, ended.
-fn push_symbol(number: u32, info: &SymInfo, out: &mut Vec<u8>) -> Result<(), NoMemory>
+fn push_symbol(number: usize, info: &SymInfo, out: &mut Vec<u8>) -> Result<(), NoMemory>
     ensures { OnOk result (out.new.items ≡ out.old.items ++
         ended (lines.text (line.Symbol number info.now) ∷ [])) }
 {
     push_word(out, b"symbol s")?;
-    push_natural(out, number)?;
+    push_count(out, number)?;
     push_word(out, b" ")?;
     push_natural(out, info.arity)?;
     push_word(out, b" ")?;
@@ -44,12 +45,11 @@ fn push_symbol(number: u32, info: &SymInfo, out: &mut Vec<u8>) -> Result<(), NoM
 
 /// The lines of the symbols, ended.
 fn push_symbols(symbols: &[SymInfo], out: &mut Vec<u8>) -> Result<(), NoMemory>
-    requires { length symbols.now ≤ 2 ^ 32 }
     ensures { OnOk result (out.new.items ≡ out.old.items ++
         ended (map lines.text (numbered 0 symbols.now))) }
 {
     for (number, info) in symbols.iter().enumerate() {
-        push_symbol(number as u32, info, out)?;
+        push_symbol(number, info, out)?;
     }
     Ok(())
 }
@@ -95,9 +95,10 @@ fn push_goal(goal: &Equation, out: &mut Vec<u8>) -> Result<(), NoMemory>
     push_word(out, b"\nEND\n")
 }
 
-/// The text of the rule set and the equation: the one that is read again as these. All in them must
-/// have a text: at most 4,096 symbols, each with at most 128 arguments and no frame the entry of a
-/// function or the head of a loop, and variables below 1,000,000. Fails only when out of memory.
+/// The text of the rule set and the equation: the one that is read again as these, where the equation
+/// fits the symbols. All in them must have a text: at most 4,096 symbols, each with at most 128
+/// arguments, and no frame the entry of a function or the head of a loop; variables below 1,000,000;
+/// and fewer than 2^32 rows in a rule or in the equation. Fails only when out of memory.
 pub fn write_rules(alloc: Global, rules: &RuleSet, goal: &Equation) -> Result<Items<u8>, NoMemory>
     requires { list_all lines.in_range (rule_lines rules.now goal.now) ≡ true }
     ensures { IfOk result (λ text. IsRuleText text rules.now goal.now) }
