@@ -1,4 +1,4 @@
-use Rattle.std.proofs.Common.{sym, subst, ℕ, Option}
+use Rattle.std.proofs.Common.{sym, subst, Option}
 use Rattle.rx_lines.specs.Texts.{ReadsAll}
 use Rattle.rx_lines.proofs.OrderLaws.{only_it}
 use Rattle.rx_rulefile.specs.Places.{rule_order}
