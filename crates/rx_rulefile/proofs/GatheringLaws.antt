@@ -1,5 +1,5 @@
 -- What a line does to what was gathered up to a place, and what was gathered at the end.
-use Rattle.std.proofs.Common.{◌≡◌, ◌∙◌, sym, refl, ap, subst, inl, inr, ◌⊎◌, ℕ, suc, ◌+◌, ◌≤◌, eqb, Bool, true, false, Option, Some, None, List, [], ◌∷◌, ◌++◌, if◌then◌else◌, map, length, append_assoc, length-append, arith}
+use Rattle.std.proofs.Common.{◌≡◌, ◌∙◌, sym, refl, ap, subst, ℕ, ◌+◌, eqb, Bool, true, false, Option, Some, None, List, [], ◌∷◌, ◌++◌, if◌then◌else◌, map, length, append_assoc, length-append, arith}
 use Rattle.std.proofs.lemmas.List.{append-nil, map-append}
 use Rattle.std.proofs.lemmas.Bool.{eqb-true, eq-eqb}
 use Rattle.std.specs.List.{list_all}
@@ -7,8 +7,8 @@ use Rattle.rx_term.specs.declared.rule.Equation.{Equation}
 use Rattle.rx_term.specs.declared.rule.Rule.{Rule}
 use Rattle.rx_term.specs.declared.rule_set.RuleParts.{RuleParts}
 use Rattle.rx_term.specs.declared.rule_set.SymInfo.{SymInfo}
-use Rattle.rx_lines.specs.Orders.{IsFirstBad, LeadsTo, MayCome, ReadsNext, after_all}
-use Rattle.rx_lines.specs.Texts.{IsText, ended, is_one_line}
+use Rattle.rx_lines.specs.Orders.{LeadsTo, after_all}
+use Rattle.rx_lines.specs.Texts.{ended}
 use Rattle.rx_lines.proofs.OrderLaws.{after_all-append}
 use Rattle.rx_rulefile.specs.Gathering.{IsAt, blank, goal_lines, lines_to, pushed}
 use Rattle.rx_rulefile.specs.Places.{after, after_rules, rule_order}

@@ -1,14 +1,12 @@
 -- What symbols are, as words: each is given by its word, and so are a number and what comes after
 -- it.
-use Rattle.std.proofs.Common.{◌≡◌, ◌∙◌, ap, refl, sym, subst, ℕ, eqb, if◌then◌else◌, Bool, true, false, Option, Some, None, List, [], ◌∷◌, ◌++◌, codes, drop, arith, ◌<◌, ◌^◌}
+use Rattle.std.proofs.Common.{◌≡◌, ◌∙◌, ap, refl, sym, ℕ, eqb, if◌then◌else◌, Bool, true, false, Option, List, [], ◌∷◌, ◌++◌, arith}
 use Rattle.std.proofs.lemmas.List.{append_cancel_left}
-use Rattle.rx_text.specs.Formats.{BeginsWith, IsUnambiguous, Reads, StandsAt, is_over}
+use Rattle.rx_text.specs.Formats.{IsUnambiguous, Reads}
 use Rattle.rx_text.specs.Numbers.{naturals}
 use Rattle.rx_text.proofs.Decimals.{naturals_unambiguous}
 use Rattle.rx_words.specs.Lists.{ending_word}
-use Rattle.rx_words.specs.Words.{in_word}
 use Rattle.rx_words.proofs.Joined.{pairs_once, word_once, word_reads}
-use Rattle.rx_lines.specs.Texts.{SkipsWhole}
 use Rattle.rx_rulefile.specs.SymbolParts.{kinds, shapes, symbols}
 use Rattle.rx_rulefile.specs.RuleLines.{arities, fail_codes, has_kind, kind_text, symbol_numbers}
 use Rattle.rx_rulefile.specs.declared.kinds.Kind.{Kind}

@@ -2,7 +2,7 @@
 use Rattle.std.proofs.Common.{◌≡◌, ◌∙◌, refl, sym, ap, subst, ℕ, eqb, Bool, true, false, ◌&&◌, Option, Some, None, List, [], ◌∷◌, ◌++◌, codes, drop}
 use Rattle.std.specs.Option.{option_map}
 use Rattle.rx_term.specs.declared.rule.Equation.{Equation}
-use Rattle.rx_text.specs.Formats.{Format, IsUnambiguous, Reads, Skips}
+use Rattle.rx_text.specs.Formats.{Format, IsUnambiguous, Reads}
 use Rattle.rx_words.specs.Words.{words}
 use Rattle.rx_term_words.specs.Equations.{equations}
 use Rattle.rx_term_words.proofs.EquationLaws.{equations_once}

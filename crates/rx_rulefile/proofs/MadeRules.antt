@@ -1,8 +1,8 @@
 -- Where no rule is found that isn't well made, all are.
-use Rattle.std.proofs.Common.{◌≡◌, ◌∙◌, refl, ap, sym, ℕ, ◌+◌, ◌≤◌, ltb, Bool, true, false, ◌&&◌, not, cond, if◌then◌else◌, Option, Some, None, List, [], ◌∷◌, length, arith}
+use Rattle.std.proofs.Common.{◌≡◌, refl, ℕ, ◌+◌, ◌≤◌, ltb, Bool, true, false, ◌&&◌, not, cond, if◌then◌else◌, Option, Some, None, List, [], ◌∷◌, length, arith}
 use Rattle.std.proofs.lemmas.Bool.{and_from, and_parts}
 use borrow.Author.Tests.{ltb-false}
-use Rattle.std.specs.List.{list_all, position, position_or_len}
+use Rattle.std.specs.List.{list_all, position_or_len}
 use Rattle.std.specs.Option.{option_or}
 use Rattle.rx_term.proofs.MadeLaws.{well_made_by_test}
 use Rattle.rx_term.specs.Fitting.{term_fits}

@@ -17,7 +17,6 @@ use Rattle.rx_lines.specs.Texts.{is_one_line}
 use Rattle.rx_lines.proofs.OneLine.{AreOneLine, joined, list_one_line, natural_one_line, spaced_one_line, spread}
 use Rattle.rx_lines.proofs.OneLinePolys.{poly_one_line, row_one_line}
 use Rattle.rx_rulefile.specs.RuleLines.{equation_of, kind_text, line_text}
-use Rattle.rx_rulefile.specs.declared.rule_line.RuleLine.{RuleLine}
 use Rattle.rx_rulefile.specs.declared.rule_line.RuleLine.TheVariants as line
 
 -- ---- terms

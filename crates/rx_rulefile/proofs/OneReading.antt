@@ -1,9 +1,8 @@
 -- A text is that of one rule set with one equation, or has one first bad line, and never both.
-use Rattle.std.proofs.Common.{◌≡◌, ◌∙◌, ap, sym, subst, ℕ, List, map}
+use Rattle.std.proofs.Common.{◌≡◌, ◌∙◌, sym, subst, ℕ, List, map}
 use Rattle.rx_term.specs.declared.rule.Equation.{Equation}
 use Rattle.rx_term.specs.declared.rule_set.RuleParts.{RuleParts}
 use Rattle.rx_lines.specs.Orders.{IsFirstBad}
-use Rattle.rx_lines.specs.Texts.{ended}
 use Rattle.rx_lines.proofs.OrderLaws as order
 use Rattle.rx_rulefile.specs.Places.{rule_order}
 use Rattle.rx_rulefile.specs.RuleLines.{lines}

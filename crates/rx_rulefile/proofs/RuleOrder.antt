@@ -1,5 +1,5 @@
 -- The order of the lines of rule texts meets what the laws ask of an order.
-use Rattle.std.proofs.Common.{◌≡◌, ◌∙◌, ap, refl, ℕ, Bool, true, ◌&&◌, List, [], ◌∷◌}
+use Rattle.std.proofs.Common.{◌≡◌, ◌∙◌, ap, refl, Bool, true, ◌&&◌, [], ◌∷◌}
 use Rattle.rx_term.specs.declared.rule.Equation.{Equation}
 use Rattle.rx_term.specs.declared.term.Term.TheFolds.{fold_out-Term}
 use Rattle.rx_term.specs.declared.term.Term.TheVariants.{Fail, outs-Fail}
@@ -7,7 +7,6 @@ use Rattle.rx_term_words.specs.Equations.{equations}
 use Rattle.rx_term_words.specs.Terms.{is_readable_level, is_readable_term}
 use Rattle.rx_lines.specs.Orders.{CanFinish, IsLineOrder}
 use Rattle.rx_rulefile.specs.Places.{rule_order}
-use Rattle.rx_rulefile.specs.RuleLines.{lines}
 use Rattle.rx_rulefile.specs.declared.place.Place.{Place}
 use Rattle.rx_rulefile.specs.declared.place.Place.TheVariants.{AtHeader, AtFails, InSymbols, InRules, AtEnd, Finished}
 use Rattle.rx_rulefile.specs.declared.rule_line.RuleLine.TheVariants as line

@@ -1,5 +1,5 @@
 -- What a reader of a rule text keeps between two lines: the place, and what the lines so far said.
-use Rattle.std.specs.Prelude.{◌≡◌, ℕ, Option, Some, None, List, [], ◌∷◌, ◌++◌, length}
+use Rattle.std.specs.Prelude.{◌≡◌, Option, Some, None, List, [], ◌∷◌, ◌++◌, length}
 use Rattle.rx_term.specs.declared.rule.Equation.{Equation}
 use Rattle.rx_rulefile.specs.RuleTexts.{set_lines}
 use Rattle.rx_rulefile.specs.declared.gathered.Gathered.{Gathered}

@@ -3,7 +3,7 @@ use Rattle.std.specs.Prelude.{ℕ, ◌==◌, Bool, true, false, not, ◌&&◌, �
 use Rattle.rx_term.specs.declared.rule.Equation.{Equation}
 use Rattle.rx_term.specs.declared.rule.Rule.{Rule}
 use Rattle.rx_text.specs.Formats.{Format}
-use Rattle.rx_text.specs.Numbers.{natural_text, naturals}
+use Rattle.rx_text.specs.Numbers.{naturals}
 use Rattle.rx_words.specs.Words.{spaced, word}
 use Rattle.rx_term_words.specs.Equations.{equations}
 use Rattle.rx_rulefile.specs.declared.rule_line.RuleLine.{RuleLine}
