@@ -1,9 +1,9 @@
 -- A text is cut at its first line feed in one way.
-use Rattle.std.proofs.Common.{◌≡◌, ◌∙◌, sym, refl, ap, subst, ℕ, ◌+◌, ◌<◌, ◌≤◌, suc, eqb, ltb, Bool, true, false, Some, None, List, [], ◌∷◌, ◌++◌, length, length-append, take, drop, cond, not, ◌&&◌, arith}
+use Rattle.std.proofs.Common.{◌≡◌, ◌∙◌, sym, refl, ap, subst, ℕ, ◌+◌, ◌<◌, ◌≤◌, suc, eqb, ltb, Bool, true, false, Some, None, List, [], ◌∷◌, ◌++◌, length, take, drop, cond, not, ◌&&◌, arith}
 use Rattle.std.proofs.lemmas.Bool.{eqb-true, eq-eqb}
 use borrow.Author.Tests.{ltb-true, ltb-false}
 use Rattle.std.specs.List.{position, position_or_len}
-use Rattle.rx_plain.proofs.Booleans.{and_false, and_second}
+use Rattle.rx_plain.proofs.Booleans.{and_second}
 use Rattle.rx_lines.specs.Texts.{is_one_line}
 
 abbrev pub is_feed : ℕ → Bool

@@ -1,5 +1,5 @@
 -- The example meets what the laws ask of an order.
-use Rattle.std.proofs.Common.{◌≡◌, ◌∙◌, refl, sym, ap, subst, ℕ, true, false, Bool, eqb, List, [], ◌∷◌, codes}
+use Rattle.std.proofs.Common.{◌≡◌, ◌∙◌, refl, sym, ap, ℕ, true, false, Bool, eqb, List, [], ◌∷◌, codes}
 use Rattle.rx_lines.specs.Example.{Closed, Entry, Item, Last, Open, Stage, entries, entry_text, items_then_last}
 use Rattle.rx_lines.specs.Orders.{CanFinish, IsFirstBad, IsLineOrder, LeadsTo, MayCome}
 use Rattle.rx_lines.specs.Texts.{IsText, is_one_line}
