@@ -3,9 +3,13 @@ use Rattle.rx_rulefile.proofs.MadeRules.{made}
 use Rattle.rx_rulefile.proofs.reading.read_rules.Goals as goal
 
 pub returns-in-Some : goal.returns-in-Some
-returns-in-Some c =
-    (c.in_ok-parts.parts, (c.in_ok-parts.goal,
-    (c.in_ok-parts.ensures, sym c.first_unmade.ensures ∙ c.in-Some.is)))
+returns-in-Some c = (
+  c.in_ok-parts.parts,
+  (
+    c.in_ok-parts.goal,
+    (c.in_ok-parts.ensures, sym c.first_unmade.ensures ∙ c.in-Some.is),
+  ),
+)
 
 pub unreachable-requires : goal.unreachable-requires
 unreachable-requires c =
