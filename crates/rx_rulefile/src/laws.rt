@@ -10,9 +10,9 @@ ghost use Rattle.rx_rulefile.specs.Places.{rule_order};
 ghost use Rattle.rx_rulefile.specs.RuleTexts.{IsRuleText, first_unmade};
 ghost use Rattle.rx_rulefile.specs.declared.place.Place.TheVariants as place;
 
-/// A rule set with an equation has one text at most; a text is that of one rule set with one equation
-/// at most, or it has one first bad line at most, and never both: what is read of a text is settled
-/// by the text alone. It does nothing: its contract is the law.
+/// A rule set with an equation has one text at most; a text is that of one rule set with one
+/// equation at most, or it has one first bad line at most, and never both: what is read of a text is
+/// settled by the text alone. It does nothing: its contract is the law.
 pub fn a_text_has_one_reading()
     ensures one_text { (s t : List ℕ) (parts : RuleParts) (goal : Equation) →
         IsRuleText s parts goal → IsRuleText t parts goal → s ≡ t }

@@ -52,10 +52,10 @@ fn read_parts(alloc: Global, text: &[u8]) -> Result<(RuleParts, Equation), RuleE
 /// The rule set and the equation whose text this is.
 ///
 /// BadLine with the number of the first line with which no rule text begins, counted from 1: so it
-/// is where the text ends too early, or where bytes without a line feed are left at its end. NotMade,
-/// where all lines are good, with the number of the first rule that isn't well made, counted from 0,
-/// or with the number of rules where all are and the equation doesn't fit the symbols. Fails else
-/// only when out of memory. Time is linear in the text.
+/// is where the text ends too early, or where bytes without a line feed are left at its end.
+/// NotMade, where all lines are good, with the number of the first rule that isn't well made,
+/// counted from 0, or with the number of rules where all are and the equation doesn't fit the
+/// symbols. Fails else only when out of memory. Time is linear in the text.
 pub fn read_rules(alloc: Global, text: &[u8]) -> Result<(RuleSet, Equation), RuleEnd>
     ensures { ReadsRules text.now result }
 {
