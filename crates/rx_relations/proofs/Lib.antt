@@ -3,6 +3,7 @@ pub mod Applied
 pub mod Closing
 pub mod ContentLaws
 pub mod Dividing
+pub mod DivisionLaws
 pub mod Eliminating
 pub mod GoalLaws
 pub mod Multiplying

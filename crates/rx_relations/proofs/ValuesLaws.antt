@@ -29,8 +29,10 @@ use Rattle.rx_cert.specs.Elimination.{are_opposite, of_opposites, solution, zero
 use Rattle.rx_solve.specs.Bounds.{most_solved}
 use Rattle.rx_solve.specs.Pivots.{first_pivot}
 use Rattle.rx_solve.specs.declared.pivots.Pivot.{Pivot}
+use Rattle.rx_relations.specs.Divisions.{facts_formed}
 use Rattle.rx_relations.specs.Holding.{AllZero, Describes}
 use Rattle.rx_relations.specs.Values.{equation_of, replaced, replaced_first, values_formed, with_pivot, with_places, with_solution, with_value}
+use Rattle.rx_relations.proofs.DivisionLaws.{facts_zero}
 use Rattle.rx_relations.proofs.Solving.{value_of_solution, value_replaced}
 
 module _ (a : ℕ → ℤ) where
@@ -215,8 +217,13 @@ module _ (a : ℕ → ℤ) where
       let last = (replaced most_solved whole).form in
       let same = same_rows most_solved whole says in
       let n = length rows in
+      let first = filter_map equation_of (take n last) in
+      let facts = (facts_formed (map poly_of (drop n last))).form in
       record {
-        equations = equations_zero (take n last) (All-take Says n last same.says);
+        equations =
+            All-append (λ p. value a p ≡ pos 0) first facts
+            (equations_zero (take n last) (All-take Says n last same.says))
+            (facts_zero a (map poly_of (drop n last)));
         values =
             values-polys (drop n last) ∙ sym (drop-map worth n last) ∙ ap (drop n) same.worths
             ∙ ap (drop n) (map-append worth rows (map Ne places))

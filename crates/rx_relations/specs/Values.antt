@@ -1,6 +1,6 @@
 -- What the rows of a goal leave of the polynomials at its places: a disequality of each of them is
 -- put after the rows, and then each variable that the rows say the value of is replaced, as in the
--- first phase of the refuter.
+-- first phase of the refuter. What is 0 of the divisions in the values is an equation, too.
 use Rattle.std.specs.Prelude.{ℕ, zero, suc, Option, Some, None, if◌then◌else◌, List, [], ◌∷◌, ◌++◌, length, map, take, drop}
 use Rattle.std.specs.List.{filter_map}
 use Rattle.rx_plain.specs.Formed.{Formed, pure, ◌>>=◌, ◌<$>◌}
@@ -14,6 +14,7 @@ use Rattle.rx_cert.specs.Elimination.{solution_formed, zero_polynomial}
 use Rattle.rx_solve.specs.Bounds.{most_solved}
 use Rattle.rx_solve.specs.Pivots.{first_pivot}
 use Rattle.rx_solve.specs.declared.pivots.Pivot.{Pivot}
+use Rattle.rx_relations.specs.Divisions.{facts_formed}
 use Rattle.rx_relations.specs.declared.instance.Instance.{Instance}
 
 -- ---- the rows, with variables replaced
@@ -68,7 +69,13 @@ instance_of n rows =
 abbrev pub with_places : List Row → List Body → List Row
 with_places rows places = rows ++ map Ne places
 
--- the values at the places, and the equations that are left
+-- the equations, and after them those that the divisions in the values give
+abbrev pub with_facts : Instance → Formed Instance
+with_facts goal =
+    (λ facts. record goal { equations = goal.equations ++ facts }) <$> facts_formed goal.values
+
+-- the values at the places, the equations that are left, and those of divisions
 abbrev pub values_formed : List Row → List Body → Formed Instance
-values_formed rows places =
-    instance_of (length rows) <$> replaced most_solved (with_places rows places)
+values_formed rows places = do
+  left ← replaced most_solved (with_places rows places)
+  with_facts (instance_of (length rows) left)

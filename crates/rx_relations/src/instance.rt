@@ -8,9 +8,10 @@ ghost use Rattle.rx_row.specs.Parts.{poly_of};
 ghost use Rattle.rx_solve.specs.Pivots.{first_pivot};
 ghost use Rattle.rx_relations.specs.Applying.{form_within};
 ghost use Rattle.rx_relations.specs.Holding.{Describes};
-ghost use Rattle.rx_relations.specs.Values.{equation_of, instance_of, replaced, values_formed, with_pivot, with_places};
+ghost use Rattle.rx_relations.specs.Values.{equation_of, instance_of, replaced, values_formed, with_facts, with_pivot, with_places};
 
 use crate::applying::form_within;
+use crate::divisions::facts;
 use rx_cert::{polynomial_at_zero, solve};
 use rx_plain::{Items, NoMemory};
 use rx_poly::{Poly, PolyEnd};
@@ -26,7 +27,8 @@ const MOST_REPLACED: u32 = 100;
 pub struct Instance {
     /// The polynomial at each place, with each variable that the rows say the value of replaced.
     pub values: Items<Poly>,
-    /// The polynomials, none of them 0, that the equations left of the rows say to be 0.
+    /// The polynomials, none of them 0, that the equations left of the rows say to be 0, and after
+    /// them what is 0 of the divisions in the values.
     pub equations: Items<Poly>,
 }
 
@@ -128,19 +130,33 @@ fn instance_of(alloc: Global, rows: &[Row], count: usize) -> Result<Instance, Al
     Ok(Instance { values, equations })
 }
 
+/// The same with equations of the divisions in the values; Large exactly where one of these, or a
+/// polynomial on the way to it, passes the limits.
+fn with_facts(alloc: Global, goal: Instance) -> Result<Instance, PolyEnd>
+    ensures { Forms PolyEnd.Large result (with_facts goal) }
+{
+    let facts = facts(alloc, goal.values.as_slice())?;
+    let mut goal = goal;
+    goal.equations.append(facts)?;
+    Ok(goal)
+}
+
 /// What is known of the places; Large exactly where a polynomial on the way passes the limits.
 fn formed_values(alloc: Global, rows: &[Row], places: &[Poly]) -> Result<Instance, PolyEnd>
     ensures { Forms PolyEnd.Large result (values_formed rows.now places.now) }
 {
     let given = with_places(alloc, rows, places)?;
     let left = replaced(alloc, given, MOST_REPLACED)?;
-    Ok(instance_of(alloc, left.as_slice(), rows.len())?)
+    let goal = instance_of(alloc, left.as_slice(), rows.len())?;
+    with_facts(alloc, goal)
 }
 
 /// What the rows of a goal leave of the polynomials at its places, and the equations that are left:
 /// a disequality of each polynomial is put after the rows, and in all of these each variable that a
-/// row says the value of is replaced, at most 100 times, as in the first phase of the refuter. None
-/// exactly where a polynomial on the way passes the limits.
+/// row says the value of is replaced, at most 100 times, as in the first phase of the refuter. After
+/// the equations stands what is 0 of each division by a number in the values: the divisor times the
+/// quotient, and the remainder, less the dividend. None exactly where a polynomial on the way passes
+/// the limits.
 pub fn values(alloc: Global, rows: &[Row], places: &[Poly]) -> Result<Option<Instance>, NoMemory>
     ensures exact { IfOk result (λ i. i ≡ form_within (values_formed rows.now places.now)) }
     ensures describes { IfOk result (λ i. IfSome i (λ goal. (a : ℕ → ℤ) → AllHold a rows.now →

@@ -12,6 +12,7 @@ mod cancelling;
 mod combination;
 mod common;
 mod content;
+mod divisions;
 mod instance;
 mod linear;
 mod products;
@@ -19,5 +20,6 @@ mod reduction;
 
 pub use all_relations::relations;
 pub use common::vanishing;
+pub use divisions::{Division, divisions_of};
 pub use instance::{Instance, values};
 pub use rx_plain::NoMemory;

@@ -62,13 +62,15 @@ may_follow task goal e =
     (not (is_idle task) && list_all (has_redex e) task) && is_as_shallow goal e
 
 -- the shape of an equation from which on it is followed: the candidates may hold, and it has no
--- goal yet
+-- goal and no remainder places yet
 abbrev pub shape_with : Equation → List Side → List Row → Followed
 shape_with e task rows =
     let sides = general_of e in
     record {
       general = record { left = sides.left; right = sides.right; rows = [] };
       task = task;
+      remainders = [];
+      variables = [];
       bounds = rows;
       goals = [];
       values = [];

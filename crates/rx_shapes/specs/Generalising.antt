@@ -1,6 +1,7 @@
 -- The general equation of a shape with some goals: the general sides, under the relations between
 -- their places that hold at each of the goals, and those bounds that each of them shows.
 use Rattle.std.specs.Prelude.{Option, Some, if◌then◌else◌, List, [], ◌++◌, length}
+use Rattle.rx_poly.specs.declared.body.Body.{Body}
 use Rattle.rx_row.specs.declared.row.Row.{Row}
 use Rattle.rx_inference.specs.Pieces.{all_pushed}
 use Rattle.rx_relations.specs.Applying.{form_within}
@@ -21,21 +22,25 @@ under_relations f relations =
           record f.general { rows = all_pushed [] (relations ++ f.bounds) };
     }
 
+-- the variables at all places, those of remainders last
+abbrev pub all_places : Followed → List Body
+all_places f = places_of f.general ++ f.variables
+
 -- the shape with its general equation, where each goal shows all its bounds
 abbrev pub generalised : Followed → Option Followed
 generalised f = do
-  relations ← form_within (relations_formed (length (places_of f.general)) f.values)
+  relations ← form_within (relations_formed (length (all_places f)) f.values)
   Some (under_relations f relations)
 
 -- ---- one goal more
 
 -- the shape with one goal more: bounds that this doesn't show are gone
 abbrev pub narrowed : KnownGoal → Followed → Followed
-narrowed goal f =
-    record (with_goal goal f) { bounds = shown_at goal.equation f.bounds }
+narrowed known f =
+    record (with_goal known f) { bounds = shown_at known.goal f.bounds }
 
 abbrev pub taken : KnownGoal → Followed → Option Followed
-taken goal f = generalised (narrowed goal f)
+taken known f = generalised (narrowed known f)
 
 -- ---- the goals at first
 
@@ -47,7 +52,7 @@ bounded f rows = record f { bounds = shown_at_all rows f.goals }
 -- too
 abbrev pub with_all_bounds : Followed → Option Followed
 with_all_bounds f = do
-  rows ← form_within (number_bounds f.bounds f.values)
+  rows ← form_within (number_bounds (length (places_of f.general)) f.bounds f.values)
   generalised (bounded f rows)
 
 -- a shape without a goal stays as it is

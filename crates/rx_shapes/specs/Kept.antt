@@ -1,28 +1,30 @@
 -- What two sides keep while they are unfolded side by side: an equation of the shape of a goal whose
 -- rows hold at each goal that comes of it again.
-use Rattle.std.specs.Prelude.{ℕ, zero, suc, ◌-◌, nat_le, Bool, true, false, not, ◌&&◌, ◌||◌, Option, Some, None, if◌then◌else◌, List, [], ◌∷◌, ◌++◌, length, slice_get}
-use Rattle.std.specs.List.{find, list_all, range_with_len}
+use Rattle.std.specs.Prelude.{ℕ, zero, suc, ◌-◌, nat_le, nat_lt, Bool, true, false, not, ◌&&◌, ◌||◌, Option, Some, None, if◌then◌else◌, List, [], ◌∷◌, ◌++◌, length, slice_get}
+use Rattle.std.specs.List.{find, list_all, list_any, range_with_len}
 use Rattle.rx_term.specs.declared.rule.Equation.{Equation}
 use Rattle.rx_term.specs.declared.rule_set.RuleParts.{RuleParts}
 use Rattle.rx_inference.specs.declared.step.Side.{Side}
 use Rattle.rx_shapes.specs.Following.{follow_all, followed_from, followed_of, is_of}
 use Rattle.rx_shapes.specs.Generalising.{first_generalised, taken}
-use Rattle.rx_shapes.specs.Goals.{is_empty, known_goal, put, put_all}
+use Rattle.rx_shapes.specs.Goals.{is_empty, known_goal, placed_later, put, put_all}
 use Rattle.rx_shapes.specs.Options.{◌>>=◌, try_fold, try_map}
+use Rattle.rx_shapes.specs.Remainders.{with_remainder_places}
 use Rattle.rx_shapes.specs.Shown.{shows}
 use Rattle.rx_shapes.specs.declared.followed.Followed.{Followed}
 use Rattle.rx_shapes.specs.declared.followed.KnownGoal.{KnownGoal}
+use Rattle.rx_shapes.specs.declared.followed.PlacedGoal.{PlacedGoal}
 use Rattle.rx_shapes.specs.declared.gathering.Gathering.{Gathering}
 use Rattle.rx_shapes.specs.declared.offering.Turn.{Turn}
 
 -- ---- whether a shape takes a goal
 
 -- the goal is of the shape, and the first one, or it doesn't show all rows of the general equation
-abbrev pub is_missed : Equation → Followed → Bool
-is_missed e f = is_empty f.goals || not (list_all (shows e) f.general.rows)
+abbrev pub is_missed : PlacedGoal → Followed → Bool
+is_missed goal f = is_empty f.goals || not (list_all (shows goal) f.general.rows)
 
-abbrev pub takes : Equation → Followed → Bool
-takes e f = is_of e f && is_missed e f
+abbrev pub takes : PlacedGoal → Followed → Bool
+takes goal f = is_of goal.equation f && is_missed goal f
 
 -- ---- one goal
 
@@ -33,21 +35,42 @@ after_others turn f grows =
 
 -- a shape that is offered the goal
 abbrev pub offered : KnownGoal → Turn → Followed → Option Turn
-offered goal turn f =
-    if takes goal.equation f then (do
-      g ← taken goal f
+offered known turn f =
+    if takes known.goal f then (do
+      g ← taken known f
       Some (after_others turn g true))
     else Some (after_others turn f false)
 
 -- each of the shapes is offered the goal
 abbrev pub offered_all : KnownGoal → Turn → Option Turn
-offered_all goal turn = try_fold (offered goal) (record turn { shapes = [] }) turn.shapes
+offered_all known turn = try_fold (offered known) (record turn { shapes = [] }) turn.shapes
 
 -- so with an equation, whose values are formed first
 abbrev pub met : Turn → Equation → Option Turn
 met turn e = do
-  goal ← known_goal e
-  offered_all goal turn
+  known ← known_goal (placed_later turn.shapes e)
+  offered_all known turn
+
+-- ---- remainders
+
+-- the shape has remainder places
+abbrev pub has_places : Option Followed → Bool
+has_places None = false
+has_places (Some f) = not (is_empty f.remainders)
+
+-- the equation is of such a shape
+abbrev pub has_remainders : List Followed → Equation → Bool
+has_remainders fs e = has_places (find (is_of e) fs)
+
+-- one of these equations, which all came of the shape at place i, is of a shape with remainder
+-- places, and i isn't the place of that shape, which is 0: what stands there isn't known then
+abbrev pub come_from_elsewhere : ℕ → List Followed → List Equation → Bool
+come_from_elsewhere i fs es = nat_lt 0 i && list_any (has_remainders fs) es
+
+-- each of the equations is met, unless that is so
+abbrev pub met_unless : Bool → Turn → List Equation → Option Turn
+met_unless true turn es = None
+met_unless false turn es = try_fold met turn es
 
 -- ---- the goals at first
 
@@ -86,11 +109,12 @@ module _ (parts : RuleParts) (plan : List Side) (goal : Equation) where
     gs ← follow_all parts plan goal fs es
     gathered room gs (followed_of gs es)
 
-  -- shapes that come up are followed, and each equation of a followed shape is offered to it
-  abbrev pub reached : Turn → List Equation → Option Turn
-  reached turn es = do
+  -- shapes that come up are followed, and each equation of a followed shape is offered to it, unless
+  -- what it leaves isn't known
+  abbrev pub reached : ℕ → Turn → List Equation → Option Turn
+  reached i turn es = do
     fs ← follow_all parts plan goal turn.shapes es
-    try_fold met (record turn { shapes = fs }) (followed_of fs es)
+    met_unless (come_from_elsewhere i fs es) (record turn { shapes = fs }) (followed_of fs es)
 
 -- the general equation of the goal's shape, which is the first one
 abbrev pub first_equation : List Followed → Option Equation
@@ -118,7 +142,7 @@ module _ (parts : RuleParts) (descend : List Side → Equation → Option (List 
   abbrev pub turned_at : Turn → ℕ → Option Turn
   turned_at turn i = do
     es ← unfolded descend (slice_get turn.shapes i)
-    reached parts plan goal turn es
+    reached parts plan goal i turn es
 
   -- each shape that was there, in order
   abbrev pub turned : List Followed → Option Turn
@@ -149,9 +173,15 @@ most_turns = 8
 abbrev pub gathering_from : Equation → List Followed → Gathering
 gathering_from goal fs = record { shapes = fs; last = goal ∷ []; room = most_others }
 
+-- its shape, with remainder places
+abbrev pub followed_first : RuleParts → List Side → Equation → Option Followed
+followed_first parts plan goal = do
+  f ← followed_from parts plan goal
+  with_remainder_places goal f
+
 abbrev pub begun : RuleParts → List Side → Equation → Option Gathering
 begun parts plan goal = do
-  first ← followed_from parts plan goal
+  first ← followed_first parts plan goal
   fs ← put (first ∷ []) goal
   Some (gathering_from goal fs)
 

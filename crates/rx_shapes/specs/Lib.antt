@@ -12,4 +12,6 @@ pub mod Kept
 pub mod Numbers
 pub mod Options
 pub mod Places
+pub mod RemainderRows
+pub mod Remainders
 pub mod Shown

@@ -1,6 +1,6 @@
 -- Rows that may hold at all goals of a shape, since a place that is a number at one of them is at
 -- least that number there.
-use Rattle.std.specs.Prelude.{ℕ, suc, Option, Some, None, List, [], ◌∷◌, ℤ}
+use Rattle.std.specs.Prelude.{ℕ, suc, Option, Some, None, List, [], ◌∷◌, take, ℤ}
 use Rattle.rx_plain.specs.Formed.{Formed, pure, kept, ◌>>=◌, ◌<$>◌, fold_formed}
 use Rattle.rx_poly.specs.Constants.{number, variable}
 use Rattle.rx_poly.specs.Limits.{body_difference, is_within}
@@ -24,10 +24,10 @@ with_numbers i rows (v ∷ vs) = do
   more ← with_number i rows (constant_of (out-Body v).terms)
   with_numbers (suc i) more vs
 
--- so for the values of a goal
-abbrev pub with_goal_numbers : List Row → Instance → Formed (List Row)
-with_goal_numbers rows goal = with_numbers 0 rows goal.values
+-- so for the first values of a goal, as many as the sides have places
+abbrev pub with_goal_numbers : ℕ → List Row → Instance → Formed (List Row)
+with_goal_numbers count rows goal = with_numbers 0 rows (take count goal.values)
 
 -- so for each of the goals
-abbrev pub number_bounds : List Row → List Instance → Formed (List Row)
-number_bounds rows goals = fold_formed with_goal_numbers rows goals
+abbrev pub number_bounds : ℕ → List Row → List Instance → Formed (List Row)
+number_bounds count rows goals = fold_formed (with_goal_numbers count) rows goals

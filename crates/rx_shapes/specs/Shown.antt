@@ -5,11 +5,10 @@ use Rattle.rx_plain.specs.Formed.{Formed}
 use Rattle.rx_poly.specs.Substitution.{numbered}
 use Rattle.rx_row.specs.Substitution.{row_with}
 use Rattle.rx_row.specs.declared.row.Row.{Row}
-use Rattle.rx_term.specs.declared.rule.Equation.{Equation}
 use Rattle.rx_cert.specs.Findings.{Said, Yes, No, Beyond}
 use Rattle.rx_cert.specs.Showing.{shown}
 use Rattle.rx_solve.specs.Refuter.{refuted}
-use Rattle.rx_shapes.specs.Places.{places_of}
+use Rattle.rx_shapes.specs.declared.followed.PlacedGoal.{PlacedGoal}
 
 -- it is found, and nothing passes the limits on the way
 abbrev pub is_yes : Said → Bool
@@ -27,16 +26,16 @@ is_formed_shown given row = row.within && is_shown given row.form
 
 -- the goal shows the row: under its rows the row is shown with the polynomial at place i in place of
 -- variable i
-abbrev pub shows : Equation → Row → Bool
-shows goal row = is_formed_shown goal.rows (row_with (numbered (places_of goal)) row)
+abbrev pub shows : PlacedGoal → Row → Bool
+shows goal row = is_formed_shown goal.equation.rows (row_with (numbered goal.places) row)
 
 -- those of the rows that the goal shows
-abbrev pub shown_at : Equation → List Row → List Row
+abbrev pub shown_at : PlacedGoal → List Row → List Row
 shown_at goal rows = filter (shows goal) rows
 
 -- those that each of the goals shows
-abbrev pub shown_by_each : List Row → Equation → List Row
+abbrev pub shown_by_each : List Row → PlacedGoal → List Row
 shown_by_each rows goal = shown_at goal rows
 
-abbrev pub shown_at_all : List Row → List Equation → List Row
+abbrev pub shown_at_all : List Row → List PlacedGoal → List Row
 shown_at_all rows goals = fold shown_by_each rows goals

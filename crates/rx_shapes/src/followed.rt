@@ -4,7 +4,7 @@ ghost use Rattle.rx_shapes.specs.Following.{is_of};
 
 use rx_inference::{Side, have_one_shape};
 use rx_plain::Items;
-use rx_poly::copied_polys;
+use rx_poly::{Poly, copied_polys};
 use rx_relations::Instance;
 use rx_row::Constraint;
 use rx_term::Equation;
@@ -12,10 +12,19 @@ use std::alloc::{AllocError, Global};
 
 /// A goal of a shape.
 #[derive(Drop)]
-pub(crate) struct KnownGoal {
+pub(crate) struct PlacedGoal {
     /// The goal.
     pub(crate) equation: Equation,
-    /// The values at its places.
+    /// The polynomials at all places of the shape, those of remainders last.
+    pub(crate) places: Items<Poly>,
+}
+
+/// A goal with the values at its places.
+#[derive(Drop)]
+pub(crate) struct KnownGoal {
+    /// The goal.
+    pub(crate) goal: PlacedGoal,
+    /// The values.
     pub(crate) values: Instance,
 }
 
@@ -26,10 +35,14 @@ pub(crate) struct Followed {
     pub(crate) general: Equation,
     /// The sides that are to be unfolded in a goal of it, in order.
     pub(crate) task: Items<Side>,
+    /// What stands at its remainder places in its first goals.
+    pub(crate) remainders: Items<Poly>,
+    /// The variables of these places.
+    pub(crate) variables: Items<Poly>,
     /// Rows that may hold at all its goals.
     pub(crate) bounds: Constraint,
     /// Its goals so far.
-    pub(crate) goals: Items<Equation>,
+    pub(crate) goals: Items<PlacedGoal>,
     /// The values at their places, goal by goal.
     pub(crate) values: Items<Instance>,
 }
@@ -42,6 +55,16 @@ impl Followed {
         have_one_shape(&self.general.left, &equation.left)
             && have_one_shape(&self.general.right, &equation.right)
     }
+}
+
+/// The same goal once more; fails only when out of memory.
+pub(crate) fn copied_goal(alloc: Global, goal: &PlacedGoal) -> Result<PlacedGoal, AllocError>
+    ensures { IfOk result (λ made. made ≡ goal.now) }
+{
+    Ok(PlacedGoal {
+        equation: goal.equation.try_clone(alloc)?,
+        places: copied_polys(alloc, goal.places.as_slice())?,
+    })
 }
 
 /// The same values once more; fails only when out of memory.

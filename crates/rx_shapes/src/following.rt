@@ -165,6 +165,8 @@ fn shape_with(
             rows: Constraint::from_rows(Vec::new(alloc)),
         },
         task,
+        remainders: Items::new(alloc),
+        variables: Items::new(alloc),
         bounds: rows,
         goals: Items::new(alloc),
         values: Items::new(alloc),

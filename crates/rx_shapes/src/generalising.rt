@@ -14,9 +14,10 @@ use crate::numbers::number_bounds;
 use crate::places::places_of;
 use crate::shown::{shown_at, shown_at_all};
 use rx_plain::{Items, NoMemory};
+use rx_poly::{Poly, copied_polys};
 use rx_relations::relations;
 use rx_row::{Constraint, Row};
-use std::alloc::Global;
+use std::alloc::{AllocError, Global};
 
 /// The rows, each where it first stands.
 fn each_once(alloc: Global, rows: Items<Row>) -> Result<Constraint, NoMemory>
@@ -43,12 +44,21 @@ fn both_rows(
     each_once(alloc, rows)
 }
 
+/// The variables at all places of the shape.
+fn all_places(alloc: Global, shape: &Followed) -> Result<Items<Poly>, AllocError>
+    ensures { IfOk result (λ ps. ps ≡ spec.all_places shape.now) }
+{
+    let mut places = places_of(alloc, &shape.general)?;
+    places.append(copied_polys(alloc, shape.variables.as_slice())?)?;
+    Ok(places)
+}
+
 /// The relations of the goals of the shape; None exactly where something passes the limits.
 fn relations_of(alloc: Global, shape: &Followed) -> Result<Option<Items<Row>>, NoMemory>
     ensures { IfOk result (λ o. o ≡ form_within
-        (relations_formed (length (places_of shape.now.general)) shape.now.values)) }
+        (relations_formed (length (spec.all_places shape.now)) shape.now.values)) }
 {
-    let count = places_of(alloc, &shape.general)?.len();
+    let count = all_places(alloc, shape)?.len();
     if count as u64 >= 1 << 32 {
         return Err(NoMemory);
     }
@@ -72,17 +82,17 @@ fn generalised(alloc: Global, shape: Followed) -> Result<Option<Followed>, NoMem
 pub(crate) fn taken<E: Explores>(
     alloc: Global,
     explores: &mut E,
-    goal: &KnownGoal,
+    known: &KnownGoal,
     shape: Followed,
 ) -> Result<Option<Followed>, NoMemory>
     requires ready { E.ready explores.old }
     ensures ready { E.ready explores.new }
     ensures world { E.world explores.new ≡ E.world explores.old }
-    ensures exact { IfOk result (λ o. o ≡ spec.taken goal.now shape) }
+    ensures exact { IfOk result (λ o. o ≡ spec.taken known.now shape) }
 {
     let mut shape = shape;
-    shape.bounds = shown_at(alloc, explores, &goal.equation, shape.bounds.rows())?;
-    shape.add(alloc, goal)?;
+    shape.bounds = shown_at(alloc, explores, &known.goal, shape.bounds.rows())?;
+    shape.add(alloc, known)?;
     generalised(alloc, shape)
 }
 
@@ -90,10 +100,12 @@ pub(crate) fn taken<E: Explores>(
 /// one of these passes the limits.
 fn all_bounds(alloc: Global, shape: &Followed) -> Result<Option<Constraint>, NoMemory>
     ensures { IfOk result (λ o. o ≡
-        form_within (number_bounds shape.now.bounds shape.now.values)) }
+        form_within (number_bounds (length (places_of shape.now.general)) shape.now.bounds
+        shape.now.values)) }
 {
+    let count = places_of(alloc, &shape.general)?.len();
     let rows = shape.bounds.try_clone(alloc)?;
-    number_bounds(alloc, rows, shape.values.as_slice())
+    number_bounds(alloc, count, rows, shape.values.as_slice())
 }
 
 /// The shape with its general equation, where what the places of its goals say that are numbers is

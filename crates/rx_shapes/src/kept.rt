@@ -10,6 +10,7 @@ use crate::following::followed_from;
 use crate::gathering::{Gathering, gather_times};
 use crate::generalising::all_generalised;
 use crate::goals::put;
+use crate::remaining::with_remainder_places;
 use crate::turning::turns;
 use rx_inference::Side;
 use rx_pairs::Loops;
@@ -37,14 +38,27 @@ fn gathering_from(
     })
 }
 
+/// The shape of the goal, with remainder places; None exactly where a polynomial of its candidates
+/// passes the limits.
+fn followed_first(alloc: Global, aim: &Aim<'_>) -> Result<Option<Followed>, NoMemory>
+    requires loops { AreLoopsOf aim.now.rules.now aim.now.loops.now }
+    ensures { IfOk result (λ o. o ≡
+        spec.followed_first aim.now.rules.now aim.now.plan.now aim.now.goal.now) }
+{
+    let task = Items::from_slice(alloc, aim.plan)?;
+    match followed_from(alloc, aim, task, aim.goal)? {
+        Some(shape) => with_remainder_places(alloc, aim.goal, shape),
+        None => Ok(None),
+    }
+}
+
 /// The goal alone, as the first one of its shape; None exactly where something passes the limits.
 fn begin(alloc: Global, aim: &Aim<'_>) -> Result<Option<Gathering>, NoMemory>
     requires loops { AreLoopsOf aim.now.rules.now aim.now.loops.now }
     ensures { IfOk result (λ o. o ≡
         spec.begun aim.now.rules.now aim.now.plan.now aim.now.goal.now) }
 {
-    let task = Items::from_slice(alloc, aim.plan)?;
-    let Some(shape) = followed_from(alloc, aim, task, aim.goal)? else {
+    let Some(shape) = followed_first(alloc, aim)? else {
         return Ok(None);
     };
     let mut shapes = Items::new(alloc);

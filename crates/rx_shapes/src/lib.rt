@@ -23,6 +23,7 @@ mod kept;
 mod numbers;
 mod offering;
 mod places;
+mod remaining;
 mod shown;
 mod turning;
 
@@ -32,5 +33,6 @@ pub use general::{GeneralSides, general_sides, variables_from};
 pub use held::goal_bounds;
 pub use kept::kept_equation;
 pub use places::{have_one_shape, places_of};
+pub use remaining::remainders_of;
 pub use rx_plain::NoMemory;
 pub use rx_poly::PolyEnd;

@@ -45,26 +45,50 @@ fn push_numbers(rows: &mut Constraint, alloc: Global, values: &[Poly]) -> Result
     Ok(())
 }
 
-/// The rows, and what the values of each goal say that are numbers; Large exactly where a difference
-/// passes the limits.
-fn formed_bounds(alloc: Global, rows: Constraint, goals: &[Instance]) -> Result<Constraint, PolyEnd>
-    ensures { Forms PolyEnd.Large result (spec.number_bounds rows goals.now) }
+/// Adds what the first values of the goal, so many, say that are numbers; Large exactly where a
+/// difference passes the limits.
+fn push_goal(
+    rows: &mut Constraint,
+    alloc: Global,
+    count: usize,
+    goal: &Instance,
+) -> Result<(), PolyEnd>
+    ensures { FormsAs (λ _. rows.new) PolyEnd.Large result
+        (spec.with_goal_numbers count rows.old goal.now) }
+{
+    let (first, _) = goal
+        .values
+        .as_slice()
+        .split_at(count.min(goal.values.len()));
+    push_numbers(rows, alloc, first)
+}
+
+/// The rows, and what the first values of each goal, so many, say that are numbers; Large exactly
+/// where a difference passes the limits.
+fn formed_bounds(
+    alloc: Global,
+    count: usize,
+    rows: Constraint,
+    goals: &[Instance],
+) -> Result<Constraint, PolyEnd>
+    ensures { Forms PolyEnd.Large result (spec.number_bounds count rows goals.now) }
 {
     let mut rows = rows;
     for goal in goals {
-        push_numbers(&mut rows, alloc, goal.values.as_slice())?;
+        push_goal(&mut rows, alloc, count, goal)?;
     }
     Ok(rows)
 }
 
-/// The rows, and that each place is at least what it is at each of these goals, where it is a number
-/// there. None exactly where a difference passes the limits.
+/// The rows, and that each of the first places, so many, is at least what it is at each of these
+/// goals, where it is a number there. None exactly where a difference passes the limits.
 pub(crate) fn number_bounds(
     alloc: Global,
+    count: usize,
     rows: Constraint,
     goals: &[Instance],
 ) -> Result<Option<Constraint>, NoMemory>
-    ensures { IfOk result (λ o. o ≡ form_within (spec.number_bounds rows goals.now)) }
+    ensures { IfOk result (λ o. o ≡ form_within (spec.number_bounds count rows goals.now)) }
 {
-    form_within(formed_bounds(alloc, rows, goals))
+    form_within(formed_bounds(alloc, count, rows, goals))
 }

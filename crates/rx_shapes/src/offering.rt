@@ -4,9 +4,9 @@ ghost use Rattle.rx_shapes.specs.Kept as spec;
 ghost use Rattle.rx_shapes.specs.Options.{try_fold};
 
 use crate::explores::Explores;
-use crate::followed::{Followed, KnownGoal};
+use crate::followed::{Followed, KnownGoal, PlacedGoal};
 use crate::generalising::taken;
-use crate::goals::known_goal;
+use crate::goals::{known_goal, placed_later};
 use crate::shown::shows_all;
 use rx_plain::{Items, NoMemory};
 use rx_term::Equation;
@@ -21,41 +21,41 @@ pub(crate) struct Turn {
     pub(crate) grown: bool,
 }
 
-/// Whether the shape has no goal, or the equation doesn't show all rows of its general equation.
+/// Whether the shape has no goal, or the given one doesn't show all rows of its general equation.
 fn is_missed<E: Explores>(
     alloc: Global,
     explores: &mut E,
-    equation: &Equation,
+    goal: &PlacedGoal,
     shape: &Followed,
 ) -> Result<bool, NoMemory>
     requires ready { E.ready explores.old }
     ensures ready { E.ready explores.new }
     ensures world { E.world explores.new ≡ E.world explores.old }
-    ensures exact { IfOk result (λ b. b ≡ spec.is_missed equation.now shape.now) }
+    ensures exact { IfOk result (λ b. b ≡ spec.is_missed goal.now shape.now) }
 {
     if shape.goals.is_empty() {
         return Ok(true);
     }
-    let shown = shows_all(alloc, explores, equation, shape.general.rows.rows())?;
+    let shown = shows_all(alloc, explores, goal, shape.general.rows.rows())?;
     Ok(!shown)
 }
 
-/// Whether the equation is of the shape, and missed by its general equation.
+/// Whether the goal is of the shape, and missed by its general equation.
 fn is_taken<E: Explores>(
     alloc: Global,
     explores: &mut E,
-    equation: &Equation,
+    goal: &PlacedGoal,
     shape: &Followed,
 ) -> Result<bool, NoMemory>
     requires ready { E.ready explores.old }
     ensures ready { E.ready explores.new }
     ensures world { E.world explores.new ≡ E.world explores.old }
-    ensures exact { IfOk result (λ b. b ≡ spec.takes equation.now shape.now) }
+    ensures exact { IfOk result (λ b. b ≡ spec.takes goal.now shape.now) }
 {
-    if !shape.has(equation) {
+    if !shape.has(&goal.equation) {
         return Ok(false);
     }
-    is_missed(alloc, explores, equation, shape)
+    is_missed(alloc, explores, goal, shape)
 }
 
 /// The turn with the shape after the others.
@@ -73,19 +73,19 @@ fn after_others(turn: Turn, shape: Followed, grows: bool) -> Result<Turn, NoMemo
 fn offered<E: Explores>(
     alloc: Global,
     explores: &mut E,
-    goal: &KnownGoal,
+    known: &KnownGoal,
     turn: Turn,
     shape: Followed,
 ) -> Result<Option<Turn>, NoMemory>
     requires ready { E.ready explores.old }
     ensures ready { E.ready explores.new }
     ensures world { E.world explores.new ≡ E.world explores.old }
-    ensures exact { IfOk result (λ o. o ≡ spec.offered goal.now turn shape) }
+    ensures exact { IfOk result (λ o. o ≡ spec.offered known.now turn shape) }
 {
-    if !is_taken(alloc, explores, &goal.equation, &shape)? {
+    if !is_taken(alloc, explores, &known.goal, &shape)? {
         return Ok(Some(after_others(turn, shape, false)?));
     }
-    match taken(alloc, explores, goal, shape)? {
+    match taken(alloc, explores, known, shape)? {
         Some(shape) => Ok(Some(after_others(turn, shape, true)?)),
         None => Ok(None),
     }
@@ -96,13 +96,13 @@ fn offered<E: Explores>(
 fn offered_all<E: Explores>(
     alloc: Global,
     explores: &mut E,
-    goal: &KnownGoal,
+    known: &KnownGoal,
     turn: Turn,
 ) -> Result<Option<Turn>, NoMemory>
     requires ready { E.ready explores.old }
     ensures ready { E.ready explores.new }
     ensures world { E.world explores.new ≡ E.world explores.old }
-    ensures exact { IfOk result (λ o. o ≡ spec.offered_all goal.now turn) }
+    ensures exact { IfOk result (λ o. o ≡ spec.offered_all known.now turn) }
 {
     let Turn { shapes, grown } = turn;
     let mut done = Turn {
@@ -110,7 +110,7 @@ fn offered_all<E: Explores>(
         grown,
     };
     for shape in shapes.into_vec() {
-        match offered(alloc, explores, goal, done, shape)? {
+        match offered(alloc, explores, known, done, shape)? {
             Some(next) => done = next,
             None => return Ok(None),
         }
@@ -131,8 +131,9 @@ fn met<E: Explores>(
     ensures world { E.world explores.new ≡ E.world explores.old }
     ensures exact { IfOk result (λ o. o ≡ spec.met turn equation) }
 {
-    match known_goal(alloc, equation)? {
-        Some(goal) => offered_all(alloc, explores, &goal, turn),
+    let goal = placed_later(alloc, turn.shapes.as_slice(), equation)?;
+    match known_goal(alloc, goal)? {
+        Some(known) => offered_all(alloc, explores, &known, turn),
         None => Ok(None),
     }
 }

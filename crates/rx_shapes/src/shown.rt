@@ -4,16 +4,14 @@ ghost use Rattle.std.specs.List.{list_all};
 ghost use Rattle.rx_poly.specs.Substitution.{numbered};
 ghost use Rattle.rx_relations.specs.Applying.{form_within};
 ghost use Rattle.rx_row.specs.Substitution.{row_with};
-ghost use Rattle.rx_shapes.specs.Places.{places_of};
 ghost use Rattle.rx_shapes.specs.Shown.{shown_at, shown_at_all, shows};
 
 use crate::applying::form_within;
 use crate::explores::Explores;
-use crate::places::places_of;
+use crate::followed::PlacedGoal;
 use rx_plain::NoMemory;
 use rx_poly::Poly;
 use rx_row::{Constraint, Row};
-use rx_term::Equation;
 use std::alloc::Global;
 
 /// The row with these polynomials in place of its variables; None exactly where one on the way
@@ -24,23 +22,21 @@ fn instance(alloc: Global, row: &Row, places: &[Poly]) -> Result<Option<Row>, No
     form_within(row.at_args(alloc, places))
 }
 
-/// Whether the goal, which has these places, shows the row.
+/// Whether the goal shows the row.
 #[tactic(auto, using(crate::proofs::ShownLaws::not_formed))]
 fn is_shown<E: Explores>(
     alloc: Global,
     explores: &mut E,
-    goal: &Equation,
-    places: &[Poly],
+    goal: &PlacedGoal,
     row: &Row,
 ) -> Result<bool, NoMemory>
     requires ready { E.ready explores.old }
-    requires places { places.now ≡ places_of goal.now }
     ensures ready { E.ready explores.new }
     ensures world { E.world explores.new ≡ E.world explores.old }
     ensures exact { IfOk result (λ b. b ≡ shows goal.now row.now) }
 {
-    match instance(alloc, row, places)? {
-        Some(row) => explores.shows(&goal.rows, &row),
+    match instance(alloc, row, goal.places.as_slice())? {
+        Some(row) => explores.shows(&goal.equation.rows, &row),
         None => Ok(false),
     }
 }
@@ -49,7 +45,7 @@ fn is_shown<E: Explores>(
 pub(crate) fn shows_all<E: Explores>(
     alloc: Global,
     explores: &mut E,
-    goal: &Equation,
+    goal: &PlacedGoal,
     rows: &[Row],
 ) -> Result<bool, NoMemory>
     requires ready { E.ready explores.old }
@@ -57,32 +53,29 @@ pub(crate) fn shows_all<E: Explores>(
     ensures world { E.world explores.new ≡ E.world explores.old }
     ensures exact { IfOk result (λ b. b ≡ list_all (shows goal.now) rows.now) }
 {
-    let places = places_of(alloc, goal)?;
     for row in rows {
-        if !is_shown(alloc, explores, goal, places.as_slice(), row)? {
+        if !is_shown(alloc, explores, goal, row)? {
             return Ok(false);
         }
     }
     Ok(true)
 }
 
-/// Adds the row, if the goal, which has these places, shows it.
+/// Adds the row, if the goal shows it.
 fn push_shown<E: Explores>(
     rows: &mut Constraint,
     alloc: Global,
     explores: &mut E,
-    goal: &Equation,
-    places: &[Poly],
+    goal: &PlacedGoal,
     row: &Row,
 ) -> Result<(), NoMemory>
     requires ready { E.ready explores.old }
-    requires places { places.now ≡ places_of goal.now }
     ensures ready { E.ready explores.new }
     ensures world { E.world explores.new ≡ E.world explores.old }
     ensures exact { OnOk result (rows.new ≡
         rows.old ++ filter (shows goal.now) (row.now ∷ [])) }
 {
-    if is_shown(alloc, explores, goal, places, row)? {
+    if is_shown(alloc, explores, goal, row)? {
         rows.append(row.try_clone(alloc)?)?;
     }
     Ok(())
@@ -92,7 +85,7 @@ fn push_shown<E: Explores>(
 pub(crate) fn shown_at<E: Explores>(
     alloc: Global,
     explores: &mut E,
-    goal: &Equation,
+    goal: &PlacedGoal,
     rows: &[Row],
 ) -> Result<Constraint, NoMemory>
     requires ready { E.ready explores.old }
@@ -100,10 +93,9 @@ pub(crate) fn shown_at<E: Explores>(
     ensures world { E.world explores.new ≡ E.world explores.old }
     ensures exact { IfOk result (λ c. c ≡ shown_at goal.now rows.now) }
 {
-    let places = places_of(alloc, goal)?;
     let mut kept = Constraint::from_rows(Vec::new(alloc));
     for row in rows {
-        push_shown(&mut kept, alloc, explores, goal, places.as_slice(), row)?;
+        push_shown(&mut kept, alloc, explores, goal, row)?;
     }
     Ok(kept)
 }
@@ -113,7 +105,7 @@ pub(crate) fn shown_at_all<E: Explores>(
     alloc: Global,
     explores: &mut E,
     rows: Constraint,
-    goals: &[Equation],
+    goals: &[PlacedGoal],
 ) -> Result<Constraint, NoMemory>
     requires ready { E.ready explores.old }
     ensures ready { E.ready explores.new }

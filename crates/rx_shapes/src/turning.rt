@@ -1,5 +1,6 @@
 //! Turns: what comes of general equations is added where it doesn't show their rows.
 ghost use Rattle.std.specs.Prelude.{◌≡◌, IfOk};
+ghost use Rattle.std.specs.List.{list_any};
 ghost use Rattle.std.specs.Option.{option_copied};
 ghost use Rattle.rx_pairs.specs.Loops.{AreLoopsOf};
 ghost use Rattle.rx_shapes.specs.Kept as spec;
@@ -7,7 +8,7 @@ ghost use Rattle.rx_shapes.specs.Kept as spec;
 use crate::aim::Aim;
 use crate::explores::Explores;
 use crate::followed::Followed;
-use crate::following::{follow_all, followed_of};
+use crate::following::{follow_all, followed_of, shape_of};
 use crate::offering::{Turn, met_all};
 use rx_plain::{Items, NoMemory};
 use rx_term::Equation;
@@ -36,12 +37,50 @@ fn unfolded<E: Explores>(
     }
 }
 
-/// The shapes with those of these equations, once each of these was offered to them; None where
-/// something passes the limits.
+/// Whether the shape has remainder places.
+fn has_places(shape: Option<&Followed>) -> bool
+    ensures { result ≡ spec.has_places (option_copied shape.entry) }
+{
+    match shape {
+        Some(shape) => !shape.remainders.is_empty(),
+        None => false,
+    }
+}
+
+/// Whether the equation is of such a shape.
+fn has_remainders(shapes: &[Followed], equation: &Equation) -> bool
+    ensures { result ≡ spec.has_remainders shapes.now equation.now }
+{
+    has_places(shape_of(shapes, equation))
+}
+
+/// Whether one of the equations is.
+fn have_remainders(shapes: &[Followed], equations: &[Equation]) -> bool
+    ensures { result ≡ list_any (spec.has_remainders shapes.now) equations.now }
+{
+    for equation in equations {
+        if has_remainders(shapes, equation) {
+            return true;
+        }
+    }
+    false
+}
+
+/// Whether one of the equations, which came of the shape at that place, is of another shape, which
+/// has remainder places.
+fn come_from_elsewhere(at: usize, shapes: &[Followed], equations: &[Equation]) -> bool
+    ensures { result ≡ spec.come_from_elsewhere at shapes.now equations.now }
+{
+    at > 0 && have_remainders(shapes, equations)
+}
+
+/// The shapes with those of these equations, which came of the shape at that place, once each of
+/// these was offered to them; None where something passes the limits, or one comes from elsewhere.
 fn reached<E: Explores>(
     alloc: Global,
     aim: &Aim<'_>,
     explores: &mut E,
+    at: usize,
     turn: Turn,
     equations: Items<Equation>,
 ) -> Result<Option<Turn>, NoMemory>
@@ -50,16 +89,17 @@ fn reached<E: Explores>(
     ensures ready { E.ready explores.new }
     ensures world { E.world explores.new ≡ E.world explores.old }
     ensures exact { IfOk result (λ o. o ≡ spec.reached aim.now.rules.now aim.now.plan.now
-        aim.now.goal.now turn equations) }
+        aim.now.goal.now at turn equations) }
 {
     let Turn { shapes, grown } = turn;
-    match follow_all(alloc, aim, shapes, equations.as_slice())? {
-        Some(shapes) => {
-            let equations = followed_of(alloc, shapes.as_slice(), equations)?;
-            met_all(alloc, explores, Turn { shapes, grown }, equations)
-        }
-        None => Ok(None),
+    let Some(shapes) = follow_all(alloc, aim, shapes, equations.as_slice())? else {
+        return Ok(None);
+    };
+    if come_from_elsewhere(at, shapes.as_slice(), equations.as_slice()) {
+        return Ok(None);
     }
+    let equations = followed_of(alloc, shapes.as_slice(), equations)?;
+    met_all(alloc, explores, Turn { shapes, grown }, equations)
 }
 
 /// The turn, once what comes of the general equation of the shape at that place was offered.
@@ -78,7 +118,7 @@ fn turned_at<E: Explores>(
         (E.found (E.world explores.old)) aim.now.plan.now aim.now.goal.now turn at) }
 {
     match unfolded(alloc, explores, turn.shapes.as_slice().get(at))? {
-        Some(equations) => reached(alloc, aim, explores, turn, equations),
+        Some(equations) => reached(alloc, aim, explores, at, turn, equations),
         None => Ok(None),
     }
 }

@@ -5,4 +5,4 @@ use Rattle.rx_shapes.proofs.goals.put_known.Given as goal
 
 abbrev pub invariant-loop-shape : goal.invariant-loop-shape
 invariant-loop-shape l =
-    l.done ++ map (put_to l.goal) l.shape-iterator.rest.items ≡ map (put_to l.goal) l.fn.shapes
+    l.done ++ map (put_to l.known) l.shape-iterator.rest.items ≡ map (put_to l.known) l.fn.shapes

@@ -6,4 +6,5 @@ use Rattle.rx_shapes.proofs.numbers.formed_bounds.Given as goal
 
 abbrev pub invariant-loop-goal : goal.invariant-loop-goal
 invariant-loop-goal l =
-    Folding with_goal_numbers l.rows (drop l.goal-index l.goals) (number_bounds l.fn.rows l.goals)
+    Folding (with_goal_numbers l.count) l.rows (drop l.goal-index l.goals)
+    (number_bounds l.count l.fn.rows l.goals)

@@ -8,6 +8,6 @@ abbrev pub invariant-loop-shape : goal.invariant-loop-shape
 invariant-loop-shape g l = record {
   ready : g.E.Explores.ready l.explores;
   world : g.E.Explores.world l.explores ≡ g.E.Explores.world l.fn.explores;
-  exact : Trying (offered l.goal) l.done l.shape-iterator.rest.items
-      (offered_all l.goal l.fn.turn);
+  exact : Trying (offered l.known) l.done l.shape-iterator.rest.items
+      (offered_all l.known l.fn.turn);
 }
