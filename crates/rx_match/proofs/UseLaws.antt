@@ -1,5 +1,6 @@
 -- What comes of trying a use, by what is found on the way.
-use Rattle.std.proofs.Common.{◌≡◌, ◌∙◌, ap, subst, sym, cond, ℕ, true, false, Option, Some, None, Result, Ok, Err, List, [], ◌∷◌}
+use Rattle.std.proofs.Common.{◌≡◌, ◌∙◌, ap, subst, sym, refl, cond, ℕ, true, false, Option, Some, None, Result, Ok, Err, List, [], ◌∷◌}
+use Rattle.std.specs.Option.{option_map_or}
 use Rattle.std.specs.Prelude.{IfOk, IfSome, slice_get}
 use Rattle.std.proofs.lemmas.Bool.{and_parts}
 use Rattle.rx_plain.specs.Formed.{Formed}
@@ -10,6 +11,7 @@ use Rattle.rx_fm.specs.declared.fm_end.FmEnd.{FmEnd}
 use Rattle.rx_term.specs.Stacks.{suffix_at}
 use Rattle.rx_term.specs.declared.rule.Equation.{Equation}
 use Rattle.rx_term.specs.declared.rule.Rule.{Rule}
+use Rattle.rx_term.specs.declared.rule_set.RuleParts.{RuleParts}
 use Rattle.rx_term.specs.declared.term.Term.{Term}
 use Rattle.rx_solve.specs.Attempts.{Tried, beyond, fails, where_shown}
 use Rattle.rx_solve.specs.Refuter.{refuted}
@@ -21,7 +23,8 @@ use Rattle.rx_inference.specs.declared.form_end.FormEnd.TheVariants.{Large, NoSu
 use Rattle.rx_inference.specs.declared.formed_step.FormedStep.{FormedStep}
 use Rattle.rx_inference.specs.declared.step.Side.{Side}
 use Rattle.rx_term.specs.Stacks.{replace_at}
-use Rattle.rx_match.specs.Matching.{asked_rows, is_matched, matching, use_at, use_with, where_within}
+use Rattle.rx_match.specs.Beside.{matching_beside, use_beside}
+use Rattle.rx_match.specs.Matching.{asked_rows, is_matched, is_place, matching, use_matched, use_of, use_with, where_within}
 use Rattle.rx_match.specs.Settings.{is_set}
 use Rattle.rx_match.specs.Uses.{IsLawful, IsShown, IsShownAt, UseAnswers}
 use Rattle.rx_match.specs.Variables.{rule_passes}
@@ -85,36 +88,53 @@ module _ (goal : Equation) (hypothesis : Rule) (part : Term) (ws : List (ℕ × 
 
 -- ---- a use at a part
 
-module _ (goal : Equation) (hypothesis : Rule) (part : Term) where
-  abbrev matched_then : Tried (List (ℕ × Body))
-  matched_then = where_within (matching hypothesis part) (use_with goal hypothesis part)
+module _ (goal : Equation) (hypothesis : Rule) (part : Term) (settings : Formed (List (ℕ × Body)))
+  where
+    abbrev matched_then : Tried (List (ℕ × Body))
+    matched_then = where_within settings (use_with goal hypothesis part)
 
-  pub at_shape : have_one_shape part hypothesis.left ≡ true → use_at goal hypothesis part ≡
-      matched_then
-  at_shape h = ap (λ b. cond b matched_then fails) h
+    at_shape : have_one_shape part hypothesis.left ≡ true →
+        use_matched goal hypothesis part settings ≡ matched_then
+    at_shape h = ap (λ b. cond b matched_then fails) h
 
-  pub at_fails : have_one_shape part hypothesis.left ≡ false → use_at goal hypothesis part ≡ fails
-  at_fails h = ap (λ b. cond b matched_then fails) h
+    pub at_fails : have_one_shape part hypothesis.left ≡ false →
+        use_matched goal hypothesis part settings ≡ fails
+    at_fails h = ap (λ b. cond b matched_then fails) h
 
-  pub at_beyond : have_one_shape part hypothesis.left ≡ true → (matching hypothesis part).within ≡
-      false → use_at goal hypothesis part ≡ beyond
-  at_beyond h k =
-      at_shape h ∙ within_beyond (matching hypothesis part) (use_with goal hypothesis part) k
+    pub at_beyond : have_one_shape part hypothesis.left ≡ true → settings.within ≡ false →
+        use_matched goal hypothesis part settings ≡ beyond
+    at_beyond h k = at_shape h ∙ within_beyond settings (use_with goal hypothesis part) k
 
-  pub at_matched : have_one_shape part hypothesis.left ≡ true → (matching hypothesis part).within ≡
-      true
-      → use_at goal hypothesis part ≡ use_with goal hypothesis part (matching hypothesis part).form
-  at_matched h k =
-      at_shape h ∙ within_is (matching hypothesis part) (use_with goal hypothesis part) k
+    -- the answer of the use with what is matched
+    pub answer_at : (ws : List (ℕ × Body)) (r : Result (Option Use) FmEnd) →
+        have_one_shape part hypothesis.left ≡ true → settings.within ≡ true → ws ≡ settings.form →
+        UseAnswers (use_with goal hypothesis part ws) r →
+        UseAnswers (use_matched goal hypothesis part settings) r
+    answer_at ws r h k e a =
+        subst (λ t. UseAnswers t r)
+        (sym (at_shape h ∙ within_is settings (use_with goal hypothesis part) k))
+        (subst (λ (vs : List (ℕ × Body)). UseAnswers (use_with goal hypothesis part vs) r) e a)
 
-  -- the answer of the use with what is matched
-  pub answer_at : (ws : List (ℕ × Body)) (r : Result (Option Use) FmEnd) →
-      have_one_shape part hypothesis.left ≡ true
-      → (matching hypothesis part).within ≡ true → ws ≡ (matching hypothesis part).form
-      → UseAnswers (use_with goal hypothesis part ws) r → UseAnswers (use_at goal hypothesis part) r
-  answer_at ws r h k e a =
-      subst (λ t. UseAnswers t r) (sym (at_matched h k))
-      (subst (λ (vs : List (ℕ × Body)). UseAnswers (use_with goal hypothesis part vs) r) e a)
+-- ---- where the part hasn't the shape
+
+module _ (goal : Equation) (hypothesis : Rule) where
+  no_use_by : (settings : Term → Formed (List (ℕ × Body))) (o : Option Term) →
+      option_map_or (λ part. have_one_shape part hypothesis.left) o false ≡ false →
+      option_map_or (λ part. use_matched goal hypothesis part (settings part)) o fails ≡ fails
+  no_use_by settings None h = refl
+  no_use_by settings (Some part) h = at_fails goal hypothesis part (settings part) h
+
+  module _ (side : Side) (place : ℕ) (h : is_place goal hypothesis side place ≡ false) where
+    -- there is no use
+    pub no_use_elsewhere : use_of goal hypothesis side place ≡ fails
+    no_use_elsewhere =
+        no_use_by (λ part. matching hypothesis part) (suffix_at place (side_of side goal)) h
+
+    pub no_use_beside_elsewhere : (parts : RuleParts) →
+        use_beside parts goal hypothesis side place ≡ fails
+    no_use_beside_elsewhere parts =
+        no_use_by (matching_beside parts.rules goal hypothesis side place)
+        (suffix_at place (side_of side goal)) h
 
 -- a fact of a use, wherever there is one
 pub if_use : (P : Use → Type 0) (r : Result (Option Use) FmEnd) → ((u : Use) → P u) →

@@ -52,12 +52,17 @@ use_with goal hypothesis part ws =
     (λ rows. where_shown (all_shown refuted goal.rows rows) ws)
     else fails
 
--- at a part of the shape of the hypothesis's left side
-abbrev pub use_at : Equation → Rule → Term → Tried (List (ℕ × Body))
-use_at goal hypothesis part =
+-- with what is matched so, at a part of the shape of the hypothesis's left side
+abbrev pub use_matched : Equation → Rule → Term → Formed (List (ℕ × Body)) →
+    Tried (List (ℕ × Body))
+use_matched goal hypothesis part settings =
     if have_one_shape part hypothesis.left
-    then where_within (matching hypothesis part) (use_with goal hypothesis part)
+    then where_within settings (use_with goal hypothesis part)
     else fails
+
+-- with what the part and the hypothesis's equations set
+abbrev pub use_at : Equation → Rule → Term → Tried (List (ℕ × Body))
+use_at goal hypothesis part = use_matched goal hypothesis part (matching hypothesis part)
 
 -- at the part under n frames of a side, if there is one
 abbrev pub use_of : Equation → Rule → Side → ℕ → Tried (List (ℕ × Body))

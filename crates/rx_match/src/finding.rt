@@ -1,6 +1,7 @@
 //! The use of a hypothesis, found by a solver.
 ghost use Rattle.std.specs.Prelude.{◌≡◌, true, IfOk, IfSome};
 ghost use Rattle.rx_cert.specs.Showing.{all_shown};
+ghost use Rattle.rx_match.specs.Beside.{matching_beside, use_beside, use_beside_at};
 ghost use Rattle.rx_inference.specs.Pieces.{have_one_shape};
 ghost use Rattle.rx_match.specs.Matching.{asked_rows, is_matched, matching, use_at, use_of, use_with};
 ghost use Rattle.rx_plain.specs.Formed.{Forms};
@@ -9,6 +10,7 @@ ghost use Rattle.rx_solve.specs.Answers.{IsSolver};
 ghost use Rattle.rx_solve.specs.Attempts.{where_shown};
 ghost use Rattle.rx_solve.specs.Refuter.{refuted};
 
+use crate::beside::{Spot, match_beside};
 use crate::matching::match_part;
 use crate::place::has_left_shape;
 use crate::unset::is_rule_set;
@@ -19,7 +21,7 @@ use rx_plain::{Items, NoMemory};
 use rx_poly::Poly;
 use rx_row::{Constraint, Row};
 use rx_solve::{AllShown, show_all};
-use rx_term::{Equation, Rule, Term};
+use rx_term::{Equation, Rule, RuleSet, Term};
 use std::alloc::{AllocError, Global};
 
 /// A use of a hypothesis.
@@ -147,6 +149,73 @@ pub fn find_use<S: FnMut(&Constraint) -> Result<Option<Cert>, FmEnd>>(
 {
     match side_of(goal, side).suffix(place) {
         Some(part) => use_at(alloc, goal, hypothesis, part, solve),
+        None => Ok(None),
+    }
+}
+
+/// The use at the part, where it has the shape of the hypothesis's left side; the other side may
+/// set variables too.
+fn use_beside_at<S: FnMut(&Constraint) -> Result<Option<Cert>, FmEnd>>(
+    alloc: Global,
+    rules: &RuleSet,
+    spot: &Spot<'_>,
+    part: &Term,
+    solve: &mut S,
+) -> Result<Option<Use>, FmEnd>
+    requires solver { IsSolver S.FnMut solve.old }
+    ensures solver { IsSolver S.FnMut solve.new }
+    ensures answer { UseAnswers (use_beside_at rules.now spot.now.goal.now spot.now.hypothesis.now
+        spot.now.side spot.now.place part.now) result }
+    ensures shown { IfOk result (λ a. IfSome a
+        (IsShownAt spot.now.goal.now spot.now.hypothesis.now part.now
+        (matching_beside rules.now.rules spot.now.goal.now spot.now.hypothesis.now
+        spot.now.side spot.now.place part.now).form)) }
+    ensures shape { IfOk result (λ a. IfSome a
+        (λ u. have_one_shape part.now spot.now.hypothesis.now.left ≡ true)) }
+{
+    if !has_left_shape(part, spot.hypothesis) {
+        return Ok(None);
+    }
+    let subst = match_beside(alloc, rules.rules(), spot, part)?;
+    use_with(alloc, spot.goal, spot.hypothesis, part, subst, solve)
+}
+
+/// The use of the hypothesis at the part of that side that is under that many frames, as
+/// `find_use`, where the other side of the goal may set variables too. Where a variable is unset
+/// after what `find_use` sets, two more things are tried, each with the equations after it:
+///
+/// - where the part under as many frames of the other side has the shape of the hypothesis's right
+///   side, variables there take what stands there;
+/// - where the hypothesis returns an unset variable, and the other side is a returned value, a new
+///   variable is put in place of the part, and the side is simplified, at most 50 times, each time
+///   by the only rule for its redex, which has no rows. Where that ends in a returned value, the
+///   hypothesis's variable takes what the new one must be for the two to be equal, if that says a
+///   value of it. The new variable is the least above all of the goal; where this isn't below 2^31
+///   nothing is set.
+///
+/// None and Large as of `find_use`, and Large also where a polynomial of these passes the limits.
+pub fn find_use_beside<S: FnMut(&Constraint) -> Result<Option<Cert>, FmEnd>>(
+    alloc: Global,
+    rules: &RuleSet,
+    goal: &Equation,
+    hypothesis: &Rule,
+    side: Side,
+    place: u32,
+    solve: &mut S,
+) -> Result<Option<Use>, FmEnd>
+    requires solver { IsSolver S.FnMut solve.old }
+    ensures solver { IsSolver S.FnMut solve.new }
+    ensures answer { UseAnswers (use_beside rules.now goal.now hypothesis.now side place) result }
+    ensures lawful { IfOk result (λ a. IfSome a (IsLawful goal.now hypothesis.now side place)) }
+{
+    let spot = Spot {
+        goal,
+        hypothesis,
+        side,
+        place,
+    };
+    match side_of(goal, side).suffix(place) {
+        Some(part) => use_beside_at(alloc, rules, &spot, part, solve),
         None => Ok(None),
     }
 }

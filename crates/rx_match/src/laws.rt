@@ -3,19 +3,34 @@ ghost use Rattle.std.specs.Prelude.{◌≡◌, ◌∷◌, [], ℕ, true, false, 
 ghost use Rattle.rx_inference.specs.Kinds.{used};
 ghost use Rattle.rx_inference.specs.declared.step.Side.{Side};
 ghost use Rattle.rx_match.specs.Equations.{pass, pass_times};
-ghost use Rattle.rx_match.specs.Matching.{is_place, use_of};
+ghost use Rattle.rx_match.specs.Beside.{matching_beside, use_beside};
+ghost use Rattle.rx_match.specs.Matching.{is_place, matching, use_of};
+ghost use Rattle.rx_match.specs.Settings.{is_set};
+ghost use Rattle.rx_match.specs.Variables.{rule_passes};
 ghost use Rattle.rx_plain.specs.Formed.{pure};
 ghost use Rattle.rx_poly.specs.declared.body.Body.{Body};
 ghost use Rattle.rx_row.specs.declared.row.Row.{Row};
 ghost use Rattle.rx_solve.specs.Attempts.{fails};
 ghost use Rattle.rx_term.specs.declared.rule.Equation.{Equation};
 ghost use Rattle.rx_term.specs.declared.rule.Rule.{Rule};
+ghost use Rattle.rx_term.specs.declared.rule_set.RuleParts.{RuleParts};
+ghost use Rattle.rx_term.specs.declared.term.Term.{Term};
 
-/// At a place whose part hasn't the shape of the hypothesis's left side there is no use, and
-/// nothing is noted.
+/// At a place whose part hasn't the shape of the hypothesis's left side there is no use, of either
+/// kind, and nothing is noted.
 pub fn other_places_have_no_use()
-    ensures { (goal : Equation) (hypothesis : Rule) (side : Side) (place : ℕ) →
+    ensures alone { (goal : Equation) (hypothesis : Rule) (side : Side) (place : ℕ) →
         is_place goal hypothesis side place ≡ false → use_of goal hypothesis side place ≡ fails }
+    ensures beside { (goal : Equation) (hypothesis : Rule) (side : Side) (place : ℕ) →
+        is_place goal hypothesis side place ≡ false → (parts : RuleParts) →
+        use_beside parts goal hypothesis side place ≡ fails }
+{}
+
+/// Where nothing is unset after the match with the part alone, that of both sides is the same.
+pub fn both_sides_are_matched_only_where_something_is_unset()
+    ensures { (rules : List Rule) (goal : Equation) (hypothesis : Rule) (side : Side) (place : ℕ)
+        (part : Term) → rule_passes (is_set (matching hypothesis part).form) hypothesis ≡ true →
+        matching_beside rules goal hypothesis side place part ≡ matching hypothesis part }
 {}
 
 /// A pass that changes nothing is the last: more of them change nothing either.

@@ -26,10 +26,13 @@ use Rattle.rx_inference.specs.declared.step.Side.{Side}
 use Rattle.rx_inference.specs.declared.step.Side.TheVariants.{Left, Right}
 use Rattle.rx_lemma.specs.Naming.{naming_of}
 use Rattle.rx_lemma.specs.Lemmas.{Generalisation}
-use Rattle.rx_match.specs.Matching.{use_of}
 use Rattle.rx_moves.specs.Moves.{Absurd, Equal, Expand, Generalise, Hyp, Move, Results, Simplify, step_of}
 use Rattle.rx_lemma.specs.Lemmas.{variables_end}
-use Rattle.rx_settle.specs.Settling.{by_results, named, resulting, resulting_at, settling, settling_first, settling_move, using_at, using_each}
+use Rattle.rx_settle.specs.AtFirst.{at_first, using_all}
+use Rattle.rx_settle.specs.Settling.{by_results, named, resulting, resulting_at, settling, settling_first, settling_move}
+use Rattle.rx_settle.specs.Uses.{use_by, using_at, using_each}
+use Rattle.rx_settle.specs.declared.uses.Matching.{Matching}
+use Rattle.rx_settle.specs.declared.uses.Matching.TheVariants.{PartAlone}
 use Rattle.rx_moves.specs.Unfolding.{by_rules, is_at_loop_point, is_tried, leaving_at, redex_symbol, simplifying, unfolding_at}
 use Rattle.rx_moves.specs.Suffixes.{common_suffix}
 use Rattle.rx_moves.specs.Trying.{Next, asked_shown, attempt, next_if_formed, then_by}
@@ -209,33 +212,35 @@ module _ (state : State) where
 
       -- ---- hypotheses
 
-      place_keeps : (number : ℕ) (hypothesis : Rule) (side : Side) (place : ℕ) →
-          Keeps (using_at parts state goal number hypothesis side place)
-      place_keeps number hypothesis side place = by (use_of goal hypothesis side place).made
-        where
-          by : (o : Option (List (ℕ × Body))) →
-              Keeps (then_by o (use_of goal hypothesis side place).noted
-              (λ subst. attempt parts state (Hyp side place number subst)))
-          by None = none_keeps (use_of goal hypothesis side place).noted
-          by (Some ws) =
-              attempt_keeps (Hyp side place number ws)
-              (hyp_keeps parts state.hypotheses (slice_get state.goals 0) side place number ws)
+      module _ (how : Matching) where
+        place_keeps : (number : ℕ) (hypothesis : Rule) (side : Side) (place : ℕ) →
+            Keeps (using_at parts state how goal number hypothesis side place)
+        place_keeps number hypothesis side place =
+            by (use_by how parts goal hypothesis side place).made
+          where
+            by : (o : Option (List (ℕ × Body))) →
+                Keeps (then_by o (use_by how parts goal hypothesis side place).noted
+                (λ subst. attempt parts state (Hyp side place number subst)))
+            by None = none_keeps (use_by how parts goal hypothesis side place).noted
+            by (Some ws) =
+                attempt_keeps (Hyp side place number ws)
+                (hyp_keeps parts state.hypotheses (slice_get state.goals 0) side place number ws)
 
-      places_keep : (number : ℕ) (hypothesis : Rule) (side : Side) (n from : ℕ) →
-          Keeps (first_applying (map (using_at parts state goal number hypothesis side)
-          (range_with_len from n)))
-      places_keep number hypothesis side zero from = none_keeps false
-      places_keep number hypothesis side (suc n) from =
-          first_keeps _ _ (place_keeps number hypothesis side from)
-          (places_keep number hypothesis side n (from + 1))
+        places_keep : (number : ℕ) (hypothesis : Rule) (side : Side) (n from : ℕ) →
+            Keeps (first_applying (map (using_at parts state how goal number hypothesis side)
+            (range_with_len from n)))
+        places_keep number hypothesis side zero from = none_keeps false
+        places_keep number hypothesis side (suc n) from =
+            first_keeps _ _ (place_keeps number hypothesis side from)
+            (places_keep number hypothesis side n (from + 1))
 
-      uses_keep : (n : ℕ) (hypotheses : List Rule) →
-          Keeps (first_applying (using_each parts state goal n hypotheses))
-      uses_keep n [] = none_keeps false
-      uses_keep n (hypothesis ∷ hypotheses) =
-          first_keeps _ _ (places_keep n hypothesis Left (1 + depth_of goal.left) 0)
-          (first_keeps _ _ (places_keep n hypothesis Right (1 + depth_of goal.right) 0)
-          (uses_keep (n + 1) hypotheses))
+        uses_keep : (n : ℕ) (hypotheses : List Rule) →
+            Keeps (first_applying (using_each parts state how goal n hypotheses))
+        uses_keep n [] = none_keeps false
+        uses_keep n (hypothesis ∷ hypotheses) =
+            first_keeps _ _ (places_keep n hypothesis Left (1 + depth_of goal.left) 0)
+            (first_keeps _ _ (places_keep n hypothesis Right (1 + depth_of goal.right) 0)
+            (uses_keep (n + 1) hypotheses))
 
       -- ---- results
 
@@ -279,12 +284,12 @@ module _ (state : State) where
       leaves side = leaving_at parts state side (redex_symbol side goal)
 
       abbrev uses : Tried Next
-      uses = first_applying (using_each parts state goal 0 state.hypotheses)
+      uses = first_applying (using_each parts state PartAlone goal 0 state.hypotheses)
 
       from_naming : later_keep (named parts state goal ∷ uses ∷ by_results parts state goal ∷ [])
       from_naming =
           item_keeps (named parts state goal) (uses ∷ by_results parts state goal ∷ []) named_keeps
-          (item_keeps uses (by_results parts state goal ∷ []) (uses_keep 0 state.hypotheses)
+          (item_keeps uses (by_results parts state goal ∷ []) (uses_keep PartAlone 0 state.hypotheses)
           (item_keeps (by_results parts state goal) [] by_results_keeps (none_keeps false)))
 
       from_leaving : later_keep (first_applying (leaves Left ∷ leaves Right ∷ []) ∷
@@ -323,6 +328,16 @@ module _ (state : State) where
     pub move_keeps : (next : Next) → (settling_move parts state).made ≡ Some next →
         next.state.hypotheses ≡ state.hypotheses
     move_keeps = goals_keep state.goals
+
+    -- and so has what uses of hypotheses make
+    pub uses_at_first_keep : (how : Matching) (next : Next) →
+        (at_first (using_all parts state how) state.goals).made ≡ Some next →
+        next.state.hypotheses ≡ state.hypotheses
+    uses_at_first_keep how = by state.goals
+      where
+        by : (goals : List Equation) → Keeps (at_first (using_all parts state how) goals)
+        by [] = none_keeps false
+        by (goal ∷ goals) = uses_keep goal how 0 state.hypotheses
 
     -- and so has what an expansion makes that doesn't keep the goal
     pub expansion_keeps : (side : Side) (next : Next) →

@@ -13,11 +13,13 @@ use Rattle.rx_inference.specs.declared.step.Side.{Side}
 use Rattle.rx_inference.specs.declared.step.Step.{Step}
 use Rattle.rx_moves.specs.Moves.{Expand, move_of}
 use Rattle.rx_moves.specs.Trying.{Next, attempt}
+use Rattle.rx_settle.specs.AtFirst.{at_first, using_all}
 use Rattle.rx_settle.specs.Settling.{settling_move}
 use Rattle.rx_settle.specs.TaskAnswers.{Makes}
-use Rattle.rx_settle.specs.Tasks.{AllHaveTasks, TaskedNext, due_first, due_move, expanding, first_task, stated_move, tasked_move, tasks_after, with_task}
+use Rattle.rx_settle.specs.Tasks.{AllHaveTasks, TaskedNext, beside_move, due_first, due_move, expanding, first_task, stated_move, tasked_move, tasks_after, with_task}
 use Rattle.rx_settle.specs.declared.due.Due.{Due}
 use Rattle.rx_settle.specs.declared.tasked.Tasked.{Tasked}
+use Rattle.rx_settle.specs.declared.uses.Matching.TheVariants.{BothSides}
 
 -- ---- goals
 
@@ -63,16 +65,22 @@ module _ (parts : RuleParts) (at : Tasked) where
   due_given (Some due) next e =
       mapped_given due.rest (attempt parts at.state (Expand due.side false)).made next e
 
-  either_given : (m : Option TaskedNext) (next : TaskedNext) →
-      ((n : TaskedNext) → m ≡ Some n → Given n) →
-      option_or m (due_move parts at) ≡ Some next → Given next
-  either_given None next here e = due_given (due_first at) next e
-  either_given (Some n) next here e = here next e
+  abbrev AreGiven : Option TaskedNext → Type 0
+  AreGiven m = (next : TaskedNext) → m ≡ Some next → Given next
 
-  move_given : (next : TaskedNext) → tasked_move parts at ≡ Some next → Given next
-  move_given next e =
-      either_given (stated_move parts at) next
-      (mapped_given (first_task at) (settling_move parts at.state).made) e
+  either_given : (m later : Option TaskedNext) → AreGiven m → AreGiven later →
+      AreGiven (option_or m later)
+  either_given None later here there next e = there next e
+  either_given (Some n) later here there next e = here next e
+
+  move_given : AreGiven (tasked_move parts at)
+  move_given =
+      either_given (stated_move parts at) (option_or (beside_move parts at) (due_move parts at))
+      (mapped_given (first_task at) (settling_move parts at.state).made)
+      (either_given (beside_move parts at) (due_move parts at)
+      (mapped_given (first_task at)
+      (at_first (using_all parts at.state BothSides) at.state.goals).made)
+      (due_given (due_first at)))
 
 count_after : (task : List Side) (tasks : List (List Side)) (before now : ℕ) →
     length tasks ≡ before → before - 1 ≤ now → length (tasks_after task tasks before now) ≡ now

@@ -11,7 +11,8 @@ use Rattle.rx_inference.specs.States.{State}
 use Rattle.rx_inference.specs.declared.step.Side.TheVariants.{Left, Right}
 use Rattle.rx_settle.specs.Answers.{IsTrial}
 use Rattle.rx_settle.specs.AtFirst.{at_first, using_all, using_sides}
-use Rattle.rx_settle.specs.Settling.{using_each, using_on}
+use Rattle.rx_settle.specs.Uses.{using_each, using_on}
+use Rattle.rx_settle.specs.declared.uses.Matching.{Matching}
 use Rattle.rx_moves.specs.Trying.{Next, noting}
 use Rattle.rx_settle.specs.Untaken.{IsUntaken}
 use Rattle.rx_settle.specs.declared.trial.Trial.{Trial}
@@ -36,19 +37,19 @@ element_at [] n h = absurd (omega arith)
 element_at (x ∷ xs) zero h = (x, (refl, refl))
 element_at (x ∷ xs) (suc n) h = element_at xs n (omega arith)
 
-module _ (parts : RuleParts) (state : State) where
+module _ (parts : RuleParts) (state : State) (how : Matching) where
   -- what comes of the hypotheses from a number on
   abbrev rest_at : ℕ → Equation → Tried Next
-  rest_at n goal = first_applying (using_each parts state goal n (drop n state.hypotheses))
+  rest_at n goal = first_applying (using_each parts state how goal n (drop n state.hypotheses))
 
   abbrev rest : ℕ → Tried Next
   rest n = at_first (rest_at n) state.goals
 
   abbrev sides : ℕ → Tried Next
-  sides n = at_first (using_sides parts state n) state.goals
+  sides n = at_first (using_sides parts state how n) state.goals
 
   abbrev whole : Tried Next
-  whole = at_first (using_all parts state) state.goals
+  whole = at_first (using_all parts state how) state.goals
 
   -- what was noted, and the hypotheses from a number on, decide
   pub record Using (noted : Bool) (n : ℕ) : Type 0 where
@@ -79,27 +80,27 @@ module _ (parts : RuleParts) (state : State) where
 
     -- at a goal
     step_at : (goal : Equation) → rest_at n goal ≡
-        made_or (using_sides parts state n goal).made (using_sides parts state n goal).noted
+        made_or (using_sides parts state how n goal).made (using_sides parts state how n goal).noted
         (rest_at (n + 1) goal)
     step_at goal =
-        let left = using_on parts state goal n here.0 Left in
-        let right = using_on parts state goal n here.0 Right in
+        let left = using_on parts state how goal n here.0 Left in
+        let right = using_on parts state how goal n here.0 Right in
         let later = rest_at (n + 1) goal in
         let from : drop n state.hypotheses ≡ here.0 ∷ drop (n + 1) state.hypotheses = here.1.0 ∙
         ap (λ k. here.0 ∷ drop k state.hypotheses) (sym (add-one n)) in
-        let sides_are : first_applying (left ∷ right ∷ []) ≡ using_sides parts state n goal =
+        let sides_are : first_applying (left ∷ right ∷ []) ≡ using_sides parts state how n goal =
         ap
         (λ (o : Option Rule). first_applying (option_map_or
-        (λ (h : Rule). using_on parts state goal n h Left) o fails ∷
-        option_map_or (λ (h : Rule). using_on parts state goal n h Right) o fails ∷ []))
+        (λ (h : Rule). using_on parts state how goal n h Left) o fails ∷
+        option_map_or (λ (h : Rule). using_on parts state how goal n h Right) o fails ∷ []))
         (sym here.1.1) in
-        ap (λ hs. first_applying (using_each parts state goal n hs)) from
+        ap (λ hs. first_applying (using_each parts state how goal n hs)) from
         ∙ both_sides left right later
         ∙ ap (λ (t : Tried Next). made_or t.made t.noted later) sides_are
 
     by_goals : (goals : List Equation) → at_first (rest_at n) goals
-        ≡ made_or (at_first (using_sides parts state n) goals).made
-        (at_first (using_sides parts state n) goals).noted (at_first (rest_at (n + 1)) goals)
+        ≡ made_or (at_first (using_sides parts state how n) goals).made
+        (at_first (using_sides parts state how n) goals).noted (at_first (rest_at (n + 1)) goals)
     by_goals [] = refl
     by_goals (goal ∷ goals) = step_at goal
 
@@ -149,17 +150,17 @@ module _ (parts : RuleParts) (state : State) where
     where
       by_goals : (goals : List Equation) → at_first (rest_at n) goals ≡ fails
       by_goals [] = refl
-      by_goals (goal ∷ goals) = ap (λ hs. first_applying (using_each parts state goal n hs)) none
+      by_goals (goal ∷ goals) = ap (λ hs. first_applying (using_each parts state how goal n hs)) none
 
   -- ---- where the state is as before
 
   module _ (at : State) (same : at ≡ state) (noted : Bool) (n : ℕ) (so_far : Using noted n) where
     module _ (inside : n < length state.hypotheses) (t u : Trial) (mid : State)
-        (trial : IsTrial parts at mid (at_first (using_sides parts at n) at.goals) t)
+        (trial : IsTrial parts at mid (at_first (using_sides parts at how n) at.goals) t)
         (more : u ≡ record { taken = t.taken; noted = noted || t.noted }) where
       trial_here : IsTrial parts state mid (sides n) t
       trial_here =
-          subst (λ s. IsTrial parts s mid (at_first (using_sides parts s n) s.goals) t) same trial
+          subst (λ s. IsTrial parts s mid (at_first (using_sides parts s how n) s.goals) t) same trial
 
       pub goes_on : (now : Bool) → IsUntaken u (Ok now) → (mid ≡ state) × Using now (n + 1)
       goes_on now untaken =

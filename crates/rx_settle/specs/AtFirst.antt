@@ -9,9 +9,12 @@ use Rattle.rx_inference.specs.States.{State}
 use Rattle.rx_inference.specs.declared.step.Side.{Side}
 use Rattle.rx_inference.specs.declared.step.Side.TheVariants.{Left, Right}
 use Rattle.rx_moves.specs.Moves.{Absurd, Equal}
-use Rattle.rx_settle.specs.Settling.{by_results, named, using_each, using_on}
+use Rattle.rx_settle.specs.Settling.{by_results, named}
 use Rattle.rx_moves.specs.Trying.{Next, attempt}
 use Rattle.rx_moves.specs.Unfolding.{leaving_sides, unfolding_sides}
+use Rattle.rx_settle.specs.Uses.{using_each, using_on}
+use Rattle.rx_settle.specs.declared.uses.Matching.{Matching}
+use Rattle.rx_settle.specs.declared.uses.Matching.TheVariants.{PartAlone}
 
 -- at the first goal; where none is left nothing is tried
 abbrev pub at_first : (Equation → Tried Next) → List Equation → Tried Next
@@ -22,19 +25,19 @@ module _ (parts : RuleParts) (state : State) where
   -- ---- hypotheses
 
   -- a hypothesis, if there is one of that number, on a side
-  abbrev pub using_number : ℕ → Side → Equation → Tried Next
-  using_number number side goal =
-      option_map_or (λ (hypothesis : Rule). using_on parts state goal number hypothesis side)
+  abbrev pub using_number : Matching → ℕ → Side → Equation → Tried Next
+  using_number how number side goal =
+      option_map_or (λ (hypothesis : Rule). using_on parts state how goal number hypothesis side)
       (slice_get state.hypotheses number) fails
 
   -- on the left side, and then on the right one
-  abbrev pub using_sides : ℕ → Equation → Tried Next
-  using_sides number goal =
-      first_applying (using_number number Left goal ∷ using_number number Right goal ∷ [])
+  abbrev pub using_sides : Matching → ℕ → Equation → Tried Next
+  using_sides how number goal =
+      first_applying (using_number how number Left goal ∷ using_number how number Right goal ∷ [])
 
   -- all hypotheses
-  abbrev pub using_all : Equation → Tried Next
-  using_all goal = first_applying (using_each parts state goal 0 state.hypotheses)
+  abbrev pub using_all : Matching → Equation → Tried Next
+  using_all how goal = first_applying (using_each parts state how goal 0 state.hypotheses)
 
   -- ---- the items before hypotheses
 
@@ -60,4 +63,4 @@ module _ (parts : RuleParts) (state : State) where
 
   -- hypotheses and results
   abbrev pub from_uses : Equation → Tried Next
-  from_uses goal = first_applying (using_all goal ∷ by_results parts state goal ∷ [])
+  from_uses goal = first_applying (using_all PartAlone goal ∷ by_results parts state goal ∷ [])

@@ -10,3 +10,4 @@ pub mod Settling
 pub mod TaskAnswers
 pub mod Tasks
 pub mod Untaken
+pub mod Uses

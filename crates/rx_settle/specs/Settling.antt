@@ -16,12 +16,13 @@ use Rattle.rx_inference.specs.declared.step.Side.{Side}
 use Rattle.rx_inference.specs.declared.step.Side.TheVariants.{Left, Right}
 use Rattle.rx_lemma.specs.Naming.{naming_of}
 use Rattle.rx_lemma.specs.Lemmas.{Generalisation, variables_end}
-use Rattle.rx_match.specs.Matching.{use_of}
 use Rattle.rx_moves.specs.Moves.{Move, Hyp, Absurd, Equal, Generalise, Results}
 use Rattle.rx_moves.specs.Suffixes.{common_suffix}
 use Rattle.rx_moves.specs.declared.finding.Common.{Common}
 use Rattle.rx_moves.specs.Trying.{Next, attempt, noting, then_try}
 use Rattle.rx_moves.specs.Unfolding.{leaving_at, redex_symbol, unfolding_at}
+use Rattle.rx_settle.specs.Uses.{using_each}
+use Rattle.rx_settle.specs.declared.uses.Matching.TheVariants.{PartAlone}
 
 -- ---- moves
 
@@ -31,26 +32,6 @@ module _ (parts : RuleParts) (state : State) where
   named goal =
       then_try (naming_of parts goal) (λ (lemma : Generalisation).
       attempt parts state (Generalise lemma.goal lemma.subst))
-
-  -- the hypothesis with that number, at a place of a side
-  abbrev pub using_at : Equation → ℕ → Rule → Side → ℕ → Tried Next
-  using_at goal number hypothesis side place =
-      then_try (use_of goal hypothesis side place)
-      (λ subst. attempt parts state (Hyp side place number subst))
-
-  -- at the places of a side, from outside in
-  abbrev pub using_on : Equation → ℕ → Rule → Side → Tried Next
-  using_on goal number hypothesis side =
-      first_applying (map (using_at goal number hypothesis side)
-      (range_with_len 0 (1 + depth_of (side_of side goal))))
-
-  -- the hypotheses in order, the first having that number, each on the left side and then on the
-  -- right one
-  abbrev pub using_each : Equation → ℕ → List Rule → List (Tried Next)
-  using_each goal n [] = []
-  using_each goal n (hypothesis ∷ hypotheses) =
-      using_on goal n hypothesis Left ∷ using_on goal n hypothesis Right ∷
-      using_each goal (n + 1) hypotheses
 
   -- Results at two places, unless both sides are taken whole
   abbrev pub resulting_at : ℕ → ℕ → Tried Next
@@ -81,7 +62,7 @@ module _ (parts : RuleParts) (state : State) where
       ∷ first_applying (leaving_at parts state Left (redex_symbol Left goal) ∷
       leaving_at parts state Right (redex_symbol Right goal) ∷ [])
       ∷ named goal
-      ∷ first_applying (using_each goal 0 state.hypotheses)
+      ∷ first_applying (using_each parts state PartAlone goal 0 state.hypotheses)
       ∷ by_results goal
       ∷ []
 

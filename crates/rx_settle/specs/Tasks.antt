@@ -11,9 +11,11 @@ use Rattle.rx_inference.specs.States.{State}
 use Rattle.rx_inference.specs.declared.step.Side.{Side}
 use Rattle.rx_moves.specs.Moves.{Move, Expand}
 use Rattle.rx_moves.specs.Trying.{Next, attempt}
+use Rattle.rx_settle.specs.AtFirst.{at_first, using_all}
 use Rattle.rx_settle.specs.Settling.{most_moves, settling_move}
 use Rattle.rx_settle.specs.declared.due.Due.{Due}
 use Rattle.rx_settle.specs.declared.tasked.Tasked.{Tasked}
+use Rattle.rx_settle.specs.declared.uses.Matching.TheVariants.{BothSides}
 
 -- ---- tasks
 
@@ -67,6 +69,13 @@ module _ (parts : RuleParts) where
   abbrev pub stated_move : Tasked → Option TaskedNext
   stated_move at = option_map (with_task (first_task at) at) (settling_move parts at.state).made
 
+  -- a hypothesis at the first goal, where the other side may set its variables too; the new goals
+  -- have the task of the first goal
+  abbrev pub beside_move : Tasked → Option TaskedNext
+  beside_move at =
+      option_map (with_task (first_task at) at)
+      (at_first (using_all parts at.state BothSides) at.state.goals).made
+
   -- Expand of the side that is due, without keeping; the new goals have the sides after it
   abbrev pub expanding : Tasked → Due → Option TaskedNext
   expanding at due =
@@ -75,9 +84,9 @@ module _ (parts : RuleParts) where
   abbrev pub due_move : Tasked → Option TaskedNext
   due_move at = option_and_then (expanding at) (due_first at)
 
-  -- the first of these two that applies
+  -- the first of these three that applies
   abbrev pub tasked_move : Tasked → Option TaskedNext
-  tasked_move at = option_or (stated_move at) (due_move at)
+  tasked_move at = option_or (stated_move at) (option_or (beside_move at) (due_move at))
 
 -- ---- settling
 

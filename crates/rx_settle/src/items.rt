@@ -10,7 +10,7 @@ ghost use Rattle.rx_moves.specs.LoopPoints.{AreLoopPoints};
 use crate::results::try_results;
 use crate::settle_memo::{SettleMemo, known_move};
 use crate::trial::Trial;
-use crate::uses::try_uses;
+use crate::uses::{Matcher, Matching, try_uses};
 use rx_cert::Cert;
 use rx_fm::FmEnd;
 use rx_moves::LoopPoints;
@@ -33,7 +33,11 @@ fn try_from_uses<S: FnMut(&Constraint) -> Result<Option<Cert>, FmEnd>>(
         (at_first (from_uses rules.now state.old) state.old.goals)) }
     ensures kept { OnErr result (state.new ≡ state.old) }
 {
-    let noted = match try_uses(alloc, rules, state, solve)?.untaken() {
+    let by = Matcher {
+        rules,
+        how: Matching::PartAlone,
+    };
+    let noted = match try_uses(alloc, &by, state, solve)?.untaken() {
         Ok(noted) => noted,
         Err(taken) => return Ok(taken),
     };

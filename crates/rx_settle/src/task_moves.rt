@@ -1,11 +1,12 @@
 //! One move at the first goal of a state whose goals have tasks.
 ghost use Rattle.std.specs.Prelude.{◌≡◌, length, option_map, IfOk, OnOk};
+ghost use Rattle.std.specs.Option.{option_or};
 ghost use Rattle.rx_moves.specs.LoopPoints.{AreLoopPoints};
 ghost use Rattle.rx_moves.specs.Trying.{Next};
 ghost use Rattle.rx_settle.specs.Answers.{IsTrial};
 ghost use Rattle.rx_settle.specs.Known.{AreKnown};
 ghost use Rattle.rx_settle.specs.TaskAnswers.{Makes};
-ghost use Rattle.rx_settle.specs.Tasks.{due_move, stated_move, tasked_move, with_task};
+ghost use Rattle.rx_settle.specs.Tasks.{beside_move, due_move, stated_move, tasked_move, with_task};
 ghost use Rattle.rx_settle.specs.declared.tasked.Tasked as declared;
 ghost use Rattle.rx_solve.specs.Answers.{IsSolver};
 ghost use Rattle.rx_solve.specs.Attempts.{Tried};
@@ -17,6 +18,7 @@ use crate::settle_memo::SettleMemo;
 use crate::tasked::Tasked;
 use crate::trial::Trial;
 use crate::trying::try_step;
+use crate::uses::{Matcher, Matching, try_uses};
 use rx_cert::Cert;
 use rx_fm::FmEnd;
 use rx_inference::{Side, Step};
@@ -73,6 +75,29 @@ fn make_stated<S: FnMut(&Constraint) -> Result<Option<Cert>, FmEnd>>(
     give_where_taken(alloc, at, task.as_slice(), before, trial)
 }
 
+/// A hypothesis at the first goal, where the other side may set its variables too.
+fn make_beside<S: FnMut(&Constraint) -> Result<Option<Cert>, FmEnd>>(
+    alloc: Global,
+    rules: &RuleSet,
+    at: &mut Tasked,
+    solve: &mut S,
+) -> Result<Option<Step>, NoMemory>
+    requires solver { IsSolver S.FnMut solve.old }
+    ensures solver { IsSolver S.FnMut solve.new }
+    ensures made { IfOk result (Makes rules.now at.old at.new (beside_move rules.now at.old)) }
+    ensures hypotheses { IfOk result (λ _.
+        at.new.state.hypotheses ≡ at.old.state.hypotheses) }
+{
+    let before = at.state.goals();
+    let task = at.first_task(alloc)?;
+    let by = Matcher {
+        rules,
+        how: Matching::BothSides,
+    };
+    let trial = try_uses(alloc, &by, &mut at.state, solve)?;
+    give_where_taken(alloc, at, task.as_slice(), before, trial)
+}
+
 /// Expand of the side that is due, without keeping the goal.
 fn make_due<S: FnMut(&Constraint) -> Result<Option<Cert>, FmEnd>>(
     alloc: Global,
@@ -98,6 +123,26 @@ fn make_due<S: FnMut(&Constraint) -> Result<Option<Cert>, FmEnd>>(
     give_where_taken(alloc, at, due.rest.as_slice(), before, trial)
 }
 
+/// A hypothesis that both sides match, or else the side that is due.
+fn make_after_stated<S: FnMut(&Constraint) -> Result<Option<Cert>, FmEnd>>(
+    alloc: Global,
+    rules: &RuleSet,
+    at: &mut Tasked,
+    solve: &mut S,
+) -> Result<Option<Step>, NoMemory>
+    requires solver { IsSolver S.FnMut solve.old }
+    ensures solver { IsSolver S.FnMut solve.new }
+    ensures made { IfOk result (Makes rules.now at.old at.new
+        (option_or (beside_move rules.now at.old) (due_move rules.now at.old))) }
+    ensures hypotheses { IfOk result (λ _.
+        at.new.state.hypotheses ≡ at.old.state.hypotheses) }
+{
+    match make_beside(alloc, rules, at, solve)? {
+        Some(step) => Ok(Some(step)),
+        None => make_due(alloc, rules, at, solve),
+    }
+}
+
 /// The first move that applies, of all that settling with tasks tries. It adds no hypothesis.
 pub(crate) fn make_move<S: FnMut(&Constraint) -> Result<Option<Cert>, FmEnd>>(
     alloc: Global,
@@ -118,6 +163,6 @@ pub(crate) fn make_move<S: FnMut(&Constraint) -> Result<Option<Cert>, FmEnd>>(
 {
     match make_stated(alloc, rules, points, memo, at, solve)? {
         Some(step) => Ok(Some(step)),
-        None => make_due(alloc, rules, at, solve),
+        None => make_after_stated(alloc, rules, at, solve),
     }
 }

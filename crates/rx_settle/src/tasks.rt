@@ -52,9 +52,11 @@ impl TaskedSteps {
 }
 
 /// Settles the first goals of a state, one after the other, by 200 moves at most: again and again
-/// by the first that applies. Where none of those that need no task does, the first side of the
-/// goal's task that has a redex is expanded, without keeping the goal, and what comes of that has
-/// the sides after it as its task. What comes of any other move has the goal's task.
+/// by the first that applies. Where none of those that settling makes without tasks does, a
+/// hypothesis is used whose variables the other side of the goal may set too. Where there is none,
+/// the first side of the goal's task that has a redex is expanded, without keeping the goal, and
+/// what comes of that has the sides after it as its task. What comes of any other move has the
+/// goal's task.
 ///
 /// What is known of goals is taken from the memo, and what is found out is kept there.
 ///

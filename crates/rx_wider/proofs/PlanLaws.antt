@@ -13,6 +13,7 @@ use Rattle.rx_solve.specs.declared.showing.AllShown.TheVariants as all_shown_by
 use Rattle.rx_row.specs.declared.row.Row.{Row}
 use Rattle.rx_poly.specs.Substitution.{numbered}
 use Rattle.rx_shapes.specs.Places.{places_of}
+use Rattle.rx_shapes.specs.Remainders.{remainders_of}
 use Rattle.rx_shapes.specs.Shown.{is_shown, is_yes}
 use Rattle.rx_memo.specs.Kept.{IsKept, IsThat}
 use Rattle.rx_memo.specs.declared.goal_memo.Kept.{Kept}
@@ -68,7 +69,7 @@ module _ (parts : RuleParts) where
   keeping_can goal plan equation = record {
     rows =
         All-cons AsksRows (steps.Generalise equation.left equation.right equation.rows
-        (numbered (places_of goal)) []) (steps.Expand plan.first true ∷ []) refl
+        (numbered (places_of goal ++ remainders_of goal)) []) (steps.Expand plan.first true ∷ []) refl
         (All-cons AsksRows (steps.Expand plan.first true) [] refl (All-nil AsksRows));
     unkept = λ e old new leads. absurd cc;
   }

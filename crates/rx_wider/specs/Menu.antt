@@ -13,6 +13,7 @@ use Rattle.rx_inference.specs.declared.step.Step.TheVariants as steps
 use Rattle.rx_moves.specs.Moves.{move_of}
 use Rattle.rx_shapes.specs.Kept.{kept}
 use Rattle.rx_shapes.specs.Places.{places_of}
+use Rattle.rx_shapes.specs.Remainders.{remainders_of}
 use Rattle.rx_wider.specs.Nodes.{Node, after_moves, if_fit, node_with}
 use Rattle.rx_wider.specs.declared.candidates.Candidate.{Candidate}
 use Rattle.rx_wider.specs.declared.candidates.Plan.{Plan}
@@ -27,14 +28,15 @@ rest_of p = option_to_list p.second
 abbrev pub have_redexes : Equation → List Side → Bool
 have_redexes goal sides = list_all (λ side. is_some (redex_of (side_of side goal))) sides
 
--- the goal becomes the equation, of which it is the instance at its places; then its side is
--- expanded and the equation kept
+-- the goal becomes the equation, of which it is the instance at its places, those of remainders
+-- last; then its side is expanded and the equation kept
 abbrev pub keeping : Equation → Plan → Equation → Candidate
 keeping goal p equation = record {
   number = p.number;
   keeps = true;
   steps =
-      steps.Generalise equation.left equation.right equation.rows (numbered (places_of goal)) []
+      steps.Generalise equation.left equation.right equation.rows
+      (numbered (places_of goal ++ remainders_of goal)) []
       ∷ steps.Expand p.first true
       ∷ [];
   task = rest_of p;

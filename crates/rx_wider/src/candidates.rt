@@ -1,13 +1,14 @@
 //! The choices at a goal, before they are tried.
-ghost use Rattle.std.specs.Prelude.{◌≡◌, ◌∷◌, IfOk};
+ghost use Rattle.std.specs.Prelude.{◌≡◌, ◌∷◌, ◌++◌, IfOk};
 ghost use Rattle.rx_poly.specs.Substitution.{numbered};
 ghost use Rattle.rx_shapes.specs.Places.{places_of};
+ghost use Rattle.rx_shapes.specs.Remainders.{remainders_of};
 ghost use Rattle.rx_wider.specs.Menu.{have_redexes, keeping, rest_of, unfolding_only};
 
 use rx_inference::{Side, Step, side_of};
 use rx_plain::{Items, NoMemory};
 use rx_poly::Poly;
-use rx_shapes::places_of;
+use rx_shapes::{places_of, remainders_of};
 use rx_term::Equation;
 use std::alloc::Global;
 
@@ -81,6 +82,15 @@ fn number_all(alloc: Global, polys: Items<Poly>) -> Result<Items<(u32, Poly)>, N
     Ok(subst)
 }
 
+/// The polynomials at the places of the goal, those of remainders last.
+fn all_places(alloc: Global, goal: &Equation) -> Result<Items<Poly>, NoMemory>
+    ensures { IfOk result (λ ps. ps ≡ places_of goal.now ++ remainders_of goal.now) }
+{
+    let mut places = places_of(alloc, goal)?;
+    places.append(remainders_of(alloc, goal)?)?;
+    Ok(places)
+}
+
 /// The steps by which the goal becomes the equation, of which it is the instance at its places, and
 /// the equation is kept.
 fn keeping_steps(
@@ -91,7 +101,7 @@ fn keeping_steps(
 ) -> Result<Items<Step>, NoMemory>
     ensures { IfOk result (λ steps. steps ≡ (keeping goal.now plan equation).steps) }
 {
-    let subst = number_all(alloc, places_of(alloc, goal)?)?;
+    let subst = number_all(alloc, all_places(alloc, goal)?)?;
     let Equation { left, right, rows } = equation;
     Ok(Items::from_vec(vec![in alloc;
         Step::Generalise {

@@ -46,7 +46,7 @@ use test_lines::{Case, Meant, Verdict, case_of, count_lines, separator_of, take_
 fn is_answered(alloc: Global, set: &RuleSet, case: &Case<'_>) -> Option<bool> {
     match case.call {
         "cover" | "lowers" | "ranks" => finding_answers::holds(alloc, set, case),
-        "lemmas" | "named" | "use" => lemma_answers::holds(alloc, set, case),
+        "beside" | "lemmas" | "named" | "use" => lemma_answers::holds(alloc, set, case),
         "runs" => ran(alloc, set, case.given)?.is_meant(alloc, case.wanted),
         _ => search_answers::holds(alloc, set, case),
     }

@@ -1,18 +1,23 @@
--- What comes of the use.
-use Rattle.rx_settle.proofs.CandidateLaws.{at_large, at_no_use, at_use}
+-- What comes of the use by that matching.
+use Rattle.rx_settle.proofs.CandidateLaws.{at_answer}
+use Rattle.rx_settle.specs.Uses.{use_by}
+use Rattle.rx_settle.specs.declared.uses.Matching.TheVariants.{BothSides, PartAlone}
 use Rattle.rx_settle.proofs.uses.find_at.Goals as goal
 
-pub returns-in-Ok-Some-clause-candidate : goal.returns-in-Ok-Some-clause-candidate
-returns-in-Ok-Some-clause-candidate g c =
-    at_use c.args.goal.now c.args.hypothesis.now c.args.side c.args.place c.in-Ok-Some.field-0 _
-    c.in-Ok-Some.ensures.answer c.in-Ok-Some.field-0-is
+pub returns-in-PartAlone-clause-candidate : goal.returns-in-PartAlone-clause-candidate
+returns-in-PartAlone-clause-candidate g c =
+    let a = c.args in
+    at_answer a.by.now a.goal.now a.hypothesis.now a.side a.place PartAlone
+    c.candidate_of.result c.in-PartAlone.is
+    (c.candidate_of.ensures
+    (use_by PartAlone a.by.now.rules.now a.goal.now a.hypothesis.now a.side a.place)
+    c.find_use.ensures.answer)
 
-pub returns-in-Ok-None-clause-candidate : goal.returns-in-Ok-None-clause-candidate
-returns-in-Ok-None-clause-candidate g c =
-    at_no_use c.args.goal.now c.args.hypothesis.now c.args.side c.args.place c.in-Ok-None.field-0
-    c.in-Ok-None.ensures.answer c.in-Ok-None.field-0-is
-
-pub returns-in-Err-Large-clause-candidate : goal.returns-in-Err-Large-clause-candidate
-returns-in-Err-Large-clause-candidate g c =
-    at_large c.args.goal.now c.args.hypothesis.now c.args.side c.args.place c.in-Err-Large.field-0
-    c.in-Err-Large.ensures.answer c.in-Err-Large.field-0-is
+pub returns-in-BothSides-clause-candidate : goal.returns-in-BothSides-clause-candidate
+returns-in-BothSides-clause-candidate g c =
+    let a = c.args in
+    at_answer a.by.now a.goal.now a.hypothesis.now a.side a.place BothSides
+    c.candidate_of-in-BothSides.result c.in-BothSides.is
+    (c.candidate_of-in-BothSides.ensures
+    (use_by BothSides a.by.now.rules.now a.goal.now a.hypothesis.now a.side a.place)
+    c.find_use_beside-found.ensures.answer)

@@ -8,12 +8,12 @@ use Rattle.rx_settle.proofs.uses.find_candidate.Goals as goal
 
 pub returns-in_default-clause-candidate : goal.returns-in_default-clause-candidate
 returns-in_default-clause-candidate g c =
-    no_first c.args.state.now c.args.number c.args.side
+    no_first c.args.by.now c.args.state.now c.args.number c.args.side
     (sym c.first.ensures ∙ ap option_copied c.in_default.is)
 
 pub returns-in-Some-get-clause-candidate : goal.returns-in-Some-get-clause-candidate
 returns-in-Some-get-clause-candidate g c =
-    of_answer c.args.state.now c.args.number c.args.side c.in-Some.goal.now c.in-Some.ensures
+    of_answer c.args.by.now c.args.state.now c.args.number c.args.side c.in-Some.goal.now c.in-Some.ensures
     c.hypotheses.result.now c.in-Some-get.hypothesis.now c.find_in.result
     c.hypotheses.ensures
     (sym (slice_get_read c.hypotheses.result.now (length c.hypotheses.result.now) c.args.number
@@ -23,7 +23,7 @@ returns-in-Some-get-clause-candidate g c =
 
 pub returns-in-None-clause-candidate : goal.returns-in-None-clause-candidate
 returns-in-None-clause-candidate g c =
-    no_hypothesis c.args.state.now c.args.number c.args.side c.in-Some.goal.now c.in-Some.ensures
+    no_hypothesis c.args.by.now c.args.state.now c.args.number c.args.side c.in-Some.goal.now c.in-Some.ensures
     c.hypotheses.result.now
     c.hypotheses.ensures (slice_get_past c.hypotheses.result.now c.args.number
     (ltb-false c.args.number (length c.hypotheses.result.now) (sym c.in-None.ensures.lookup.0)))

@@ -8,12 +8,12 @@ loop-number-init g c =
     record {
       solver = c.requires.solver;
       same = refl;
-      using = begin c.args.rules.now c.args.state.now;
+      using = begin c.args.by.now.rules.now c.args.state.now c.args.by.now.how;
     }
 
 pub loop-number-preserved : goal.loop-number-preserved
 loop-number-preserved g c =
-    let next = goes_on c.args.rules.now c.args.state.now c.loop-number.state
+    let next = goes_on c.args.by.now.rules.now c.args.state.now c.args.by.now.how c.loop-number.state
     c.loop-number.invariant.same c.loop-number.noted c.loop-number.number
     c.loop-number.invariant.using
     (is_within c.hypotheses.result.now c.args.state.now c.in_ok-count.count c.loop-number.number
@@ -25,7 +25,7 @@ loop-number-preserved g c =
 
 pub returns-in-Err-clause-trial : goal.returns-in-Err-clause-trial
 returns-in-Err-clause-trial g c =
-    ends c.args.rules.now c.args.state.now c.loop-number.state c.loop-number.invariant.same
+    ends c.args.by.now.rules.now c.args.state.now c.args.by.now.how c.loop-number.state c.loop-number.invariant.same
     c.loop-number.noted c.loop-number.number c.loop-number.invariant.using
     (is_within c.hypotheses.result.now c.args.state.now c.in_ok-count.count c.loop-number.number
     c.hypotheses.ensures c.in_ok-count.ensures c.loop-number-test.true)
@@ -35,7 +35,7 @@ returns-in-Err-clause-trial g c =
 
 pub returns-clause-trial : goal.returns-clause-trial
 returns-clause-trial g c =
-    ended c.args.rules.now c.args.state.now c.loop-number.state c.loop-number.invariant.same
+    ended c.args.by.now.rules.now c.args.state.now c.args.by.now.how c.loop-number.state c.loop-number.invariant.same
     c.loop-number.noted c.loop-number.number c.loop-number.invariant.using
     (is_past c.hypotheses.result.now c.args.state.now c.in_ok-count.count c.loop-number.number
     c.hypotheses.ensures c.in_ok-count.ensures c.loop-number-test.false)

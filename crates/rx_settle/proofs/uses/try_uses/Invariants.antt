@@ -8,5 +8,5 @@ abbrev pub invariant-loop-number : goal.invariant-loop-number
 invariant-loop-number g l = record {
   solver : IsSolver g.S.FnMut l.solve;
   same : l.state ≡ l.fn.state;
-  using : Using l.rules l.fn.state l.noted l.number;
+  using : Using l.by.rules.now l.fn.state l.by.how l.noted l.number;
 }
