@@ -1,22 +1,15 @@
 -- What a run tells beside its status is what it reported.
 use Rattle.std.specs.Prelude.{◌≡◌, ℕ, List, Option, MatchOption, ⊤}
-use Rattle.std.proofs.Common.{refl, subst, sym}
+use Rattle.std.proofs.Common.{inl, refl, subst, sym}
 use Rattle.std.specs.Io.KnownBytes.{Appends}
-use Rattle.c_refute.specs.declared.findings.Compared.{Compared}
-use Rattle.c_refute.specs.declared.findings.Compared.TheVariants as found
-use Rattle.rx_report.specs.Ends.{found_status, status_in}
+use Rattle.rx_report.specs.Ends.{status_in}
 use Rattle.rx_report.specs.Reports.{IsReportable, text_in}
 use Rattle.rx_report.specs.Texts.{IsReportableVerdict}
 use Rattle.rx_report.specs.declared.answer.Answer.{Answer}
 use Rattle.rx_report.specs.declared.answer.Answer.TheVariants.{Line, Proof, Found}
 use Rattle.rx_report.specs.declared.ends.Status.{Status}
 use Rattle.rx_report.specs.declared.verdicts.Verdict.{Verdict}
-use Rattle.rx_cli.specs.Told.{MayLackLine, Tells, line_in}
-
--- a comparison over points is no line of a verdict
-found_lacks : (found : Compared) → MayLackLine (found_status found)
-found_lacks (found.Different arguments first second) = tt
-found_lacks (found.Alike points undecided) = tt
+use Rattle.rx_cli.specs.Told.{Tells, line_in}
 
 -- what is told where the whole report was written
 told_of : (old new : Option (List ℕ)) (answer : Answer) → IsReportable answer →
@@ -24,8 +17,10 @@ told_of : (old new : Option (List ℕ)) (answer : Answer) → IsReportable answe
     Tells old new (record { status = status_in answer; verdict = line_in answer })
 told_of old new (Line verdict) reportable written =
     record { reportable = reportable; status_is = refl; written = written }
-told_of old new (Proof text) reportable written = tt
-told_of old new (Found found) reportable written = found_lacks found
+told_of old new (Proof text) reportable written =
+    inl (record { answer = Proof text; no_line = refl; status_is = refl; written = written })
+told_of old new (Found found) reportable written =
+    inl (record { answer = Found found; no_line = refl; status_is = refl; written = written })
 
 -- the same, by what the calls answered
 pub told_as : (old new : Option (List ℕ)) (answer : Answer) (status : Status)

@@ -1,7 +1,8 @@
 -- What a run hands out beside its status: the verdict whose line it reported.
-use Rattle.std.specs.Prelude.{◌≡◌, ℕ, ⊤, List, Option, Some, None, MatchOption}
+use Rattle.std.specs.Prelude.{◌≡◌, ◌⊎◌, ℕ, List, Option, Some, None, MatchOption}
 use Rattle.std.specs.Io.KnownBytes.{Appends}
-use Rattle.rx_report.specs.Ends.{status_of}
+use Rattle.rx_report.specs.Ends.{status_in, status_of}
+use Rattle.rx_report.specs.Reports.{text_in}
 use Rattle.rx_report.specs.Texts.{IsReportableVerdict, text_of}
 use Rattle.rx_report.specs.declared.answer.Answer.{Answer}
 use Rattle.rx_report.specs.declared.answer.Answer.TheVariants.{Line, Proof, Found}
@@ -22,21 +23,19 @@ pub record IsLine (old new : Option (List ℕ)) (status : Status) (verdict : Ver
   pub status_is : status ≡ status_of verdict
   pub written : Appends old new (text_of verdict)
 
--- a run may end so without such a line: it reported a log or a comparison over points, or not the
--- whole report
-abbrev pub MayLackLine : Status → Type 0
-MayLackLine Ends.Equivalent = ⊤
-MayLackLine Ends.Unknown = ⊤
-MayLackLine Ends.Different = ⊤
-MayLackLine Ends.WriteFault = ⊤
-MayLackLine Ends.NoMemory = ⊤
-MayLackLine Ends.Refused = ⊥
-MayLackLine Ends.Usage = ⊥
-MayLackLine Ends.ReadFault = ⊥
-MayLackLine Ends.Large = ⊥
+-- another answer was reported whole: a log, or a comparison over points
+pub record IsOther (old new : Option (List ℕ)) (status : Status) : Type 0 where
+  pub answer : Answer
+  pub no_line : line_in answer ≡ None
+  pub status_is : status ≡ status_in answer
+  pub written : Appends old new (text_in answer)
 
--- where a verdict is handed out, its line was reported; at each end that only such a line reports,
--- one is
+-- no line of a verdict was reported: another answer was, or not the whole report, or nothing
+abbrev pub LacksLine : Option (List ℕ) → Option (List ℕ) → Status → Type 0
+LacksLine old new status =
+    IsOther old new status ⊎ ((status ≡ Ends.WriteFault) ⊎ (status ≡ Ends.NoMemory))
+
+-- where a verdict is handed out, its line was reported; where none is, no line was
 abbrev pub Tells : Option (List ℕ) → Option (List ℕ) → Ending → Type 0
 Tells old new ending =
-    MatchOption ending.verdict (MayLackLine ending.status) (IsLine old new ending.status)
+    MatchOption ending.verdict (LacksLine old new ending.status) (IsLine old new ending.status)

@@ -1,2 +1,3 @@
 -- Lemmas on messages.
+pub mod ExplainLemmas
 pub mod MessageLemmas

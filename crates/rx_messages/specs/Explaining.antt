@@ -6,9 +6,10 @@ use Rattle.rx_report.specs.declared.ends.Status.{Status}
 use Rattle.rx_report.specs.declared.verdicts.Verdict.{Verdict}
 use Rattle.rx_messages.specs.Asked.{Asked, file_of}
 use Rattle.rx_messages.specs.Faults.{is_about_pre, place_of}
+use Rattle.rx_messages.specs.Logs.{AreFacts, Facts, longest_log}
 use Rattle.rx_messages.specs.Messages.{message}
-use Rattle.rx_messages.specs.declared.explaining.Silence.{Silence}
-use Rattle.rx_messages.specs.declared.explaining.Silence.TheVariants.{NoMemory, Unread, Changed, Cut}
+use Rattle.rx_messages.specs.declared.silences.Silence.{Silence}
+use Rattle.rx_messages.specs.declared.silences.Silence.TheVariants.{NoMemory, Unread, Changed, Cut}
 
 -- the name under which a text is read: only where the report names a place of it
 abbrev pub name_for : Asked → Verdict → Option (List ℕ)
@@ -20,32 +21,53 @@ abbrev pub name_read : Asked → Option Verdict → Option (List ℕ)
 name_read asked None = None
 name_read asked (Some verdict) = name_for asked verdict
 
+-- the most bytes of a text of functions
+abbrev pub longest_source : ℕ
+longest_source = 1048576
+
 -- what is read: what is held under the name, where that is known, else some bytes
 abbrev pub IsRead : Option Names → Option (List ℕ) → List ℕ → Type 0
 IsRead held None given = given ≡ []
-IsRead held (Some name) given = HoldsBytes held name given × (length given ≤ 1048576)
+IsRead held (Some name) given = HoldsBytes held name given × (length given ≤ longest_source)
 
--- it can't be read: a call on the files found a fault, or they don't hold the name, or hold more
-abbrev pub IsUnread : Option Names → Type 0 → Option (List ℕ) → Type 0
-IsUnread held read_fault name =
-    (file : List ℕ) × (name ≡ Some file) × (read_fault ⊎ (IsMissing held file ⊎
-    HoldsMore held file 1048576))
+-- a file can't be read: a call on the files found a fault, or they don't hold the name, or hold
+-- more than so many bytes
+abbrev pub IsUnreadAs : Option Names → Type 0 → ℕ → List ℕ → Type 0
+IsUnreadAs held read_fault most file =
+    read_fault ⊎ (IsMissing held file ⊎ HoldsMore held file most)
+
+-- there is a name, and its file can't be read
+abbrev pub IsUnread : Option Names → Type 0 → ℕ → Option (List ℕ) → Type 0
+IsUnread held read_fault most name =
+    (file : List ℕ) × (name ≡ Some file) × IsUnreadAs held read_fault most file
+
+-- what the message is about can't be read: the text, or the log
+abbrev pub HasUnread : Option Names → Type 0 → Asked → Option Verdict → Type 0
+HasUnread held read_fault asked verdict =
+    IsUnread held read_fault longest_source (name_read asked verdict)
+    ⊎ IsUnread held read_fault longest_log asked.log
 
 -- the message on what is read, which is P
 pub record HasMessage (held : Option Names) (asked : Asked) (status : Status)
     (verdict : Option Verdict) (P : List ℕ → Type 0)
     : Type 0 where
   pub given : List ℕ
+  pub facts : Facts
   pub text : List ℕ
   pub read : IsRead held (name_read asked verdict) given
-  pub is : message asked status verdict given ≡ Some text
+  pub of_log : AreFacts held asked.log verdict facts
+  pub is : message asked status verdict given facts ≡ Some text
   pub so : P text
 
 -- what is read has no such place as the report names
-abbrev pub HasChanged : Option Names → Asked → Status → Option Verdict → Type 0
-HasChanged held asked status verdict =
-    (given : List ℕ) × IsRead held (name_read asked verdict) given
-    × (message asked status verdict given ≡ None)
+pub record HasChanged (held : Option Names) (asked : Asked) (status : Status)
+    (verdict : Option Verdict)
+    : Type 0 where
+  pub given : List ℕ
+  pub facts : Facts
+  pub read : IsRead held (name_read asked verdict) given
+  pub of_log : AreFacts held asked.log verdict facts
+  pub none : message asked status verdict given facts ≡ None
 
 -- the whole message is written; or nothing, for a cause; or, where a call on the output found a
 -- fault, a part of the message
@@ -55,7 +77,7 @@ Explains held read_fault write_fault asked status verdict old new (Ok _) =
     HasMessage held asked status verdict (λ text. Appends old new text)
 Explains held read_fault write_fault asked status verdict old new (Err NoMemory) = Keeps old new
 Explains held read_fault write_fault asked status verdict old new (Err Unread) =
-    Keeps old new × IsUnread held read_fault (name_read asked verdict)
+    Keeps old new × HasUnread held read_fault asked verdict
 Explains held read_fault write_fault asked status verdict old new (Err Changed) =
     Keeps old new × HasChanged held asked status verdict
 Explains held read_fault write_fault asked status verdict old new (Err Cut) =

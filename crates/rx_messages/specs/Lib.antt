@@ -2,6 +2,7 @@
 pub mod Asked
 pub mod Explaining
 pub mod Faults
+pub mod Logs
 pub mod Messages
 pub mod Remarks
 pub mod Steps

@@ -14,6 +14,7 @@ use Rattle.rx_places.specs.declared.spots.Spot.{Spot}
 use Rattle.rx_messages.specs.declared.faults.Place.{Place}
 use Rattle.rx_messages.specs.Asked.{Asked, call, condition_of, file_name, file_of}
 use Rattle.rx_messages.specs.Faults.{is_about_pre, place_of, spot_at}
+use Rattle.rx_messages.specs.Logs.{Facts, log_text, number_text}
 use Rattle.rx_messages.specs.Remarks.{is_about_log, mode_after, tries_of, words_of}
 
 -- ---- parts
@@ -74,14 +75,10 @@ abbrev pub thing_of : Asked → Verdict → List ℕ
 thing_of asked (Said.NoFunction name) = missing_name name asked.functions
 thing_of asked verdict = []
 
--- the line of the log
-abbrev pub line_part : Verdict → List ℕ
-line_part (Said.Line number) = codes ":" ++ decimal number
-line_part verdict = []
-
-abbrev pub remark_name : Asked → Verdict → List ℕ
-remark_name asked verdict =
-    if is_about_log verdict then file_name asked.log ++ line_part verdict
+-- the name, with the line of the log
+abbrev pub remark_name : Asked → Verdict → Facts → List ℕ
+remark_name asked verdict facts =
+    if is_about_log verdict then file_name asked.log ++ number_text facts.number
     else subject_name asked verdict
 
 -- a line of advice: a call, and more
@@ -102,11 +99,11 @@ abbrev pub advice : Asked → Verdict → List ℕ
 advice asked verdict =
     advice_with (call_after (mode_after verdict) asked.functions) (tries_of verdict)
 
--- what is spoken of, what is said of it, the report, and advice
-abbrev pub remark : Asked → Verdict → List ℕ
-remark asked verdict =
-    remark_name asked verdict ++ (kind_of (status_of verdict) ++ (thing_of asked verdict
-    ++ (words_of verdict ++ (closing verdict ++ advice asked verdict))))
+-- what is spoken of, what is said of it, the report, what is shown of the log, and advice
+abbrev pub remark : Asked → Verdict → Facts → List ℕ
+remark asked verdict facts =
+    remark_name asked verdict facts ++ (kind_of (status_of verdict) ++ (thing_of asked verdict
+    ++ (words_of verdict ++ (closing verdict ++ (log_text facts ++ advice asked verdict)))))
 
 -- the modes, with an example each
 abbrev pub usage : List ℕ
@@ -147,18 +144,18 @@ at_place asked given verdict place =
     (spot_at (subject asked given verdict) place)
 
 -- the message on a report
-abbrev pub on_place : Asked → List ℕ → Verdict → Option Place → Option (List ℕ)
-on_place asked given verdict (Some place) = at_place asked given verdict place
-on_place asked given verdict None = Some (remark asked verdict)
+abbrev pub on_place : Asked → List ℕ → Verdict → Facts → Option Place → Option (List ℕ)
+on_place asked given verdict facts (Some place) = at_place asked given verdict place
+on_place asked given verdict facts None = Some (remark asked verdict facts)
 
-abbrev pub of_verdict : Asked → List ℕ → Verdict → Option (List ℕ)
-of_verdict asked given Said.Usage = Some usage
-of_verdict asked given verdict = on_place asked given verdict (place_of verdict)
+abbrev pub of_verdict : Asked → List ℕ → Verdict → Facts → Option (List ℕ)
+of_verdict asked given Said.Usage facts = Some usage
+of_verdict asked given verdict facts = on_place asked given verdict facts (place_of verdict)
 
 -- the message on a run that reported this line, or none
-abbrev pub on_report : Asked → Status → Option Verdict → List ℕ → Option (List ℕ)
-on_report asked status None given = Some (of_status asked status)
-on_report asked status (Some verdict) given = of_verdict asked given verdict
+abbrev pub on_report : Asked → Status → Option Verdict → List ℕ → Facts → Option (List ℕ)
+on_report asked status None given facts = Some (of_status asked status)
+on_report asked status (Some verdict) given facts = of_verdict asked given verdict facts
 
 -- the run said yes
 abbrev pub is_yes : Status → Bool
@@ -166,6 +163,6 @@ is_yes Ends.Equivalent = true
 is_yes status = false
 
 -- the message on a run, which is nothing after a yes
-abbrev pub message : Asked → Status → Option Verdict → List ℕ → Option (List ℕ)
-message asked status verdict given =
-    if is_yes status then Some [] else on_report asked status verdict given
+abbrev pub message : Asked → Status → Option Verdict → List ℕ → Facts → Option (List ℕ)
+message asked status verdict given facts =
+    if is_yes status then Some [] else on_report asked status verdict given facts

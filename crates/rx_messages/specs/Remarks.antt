@@ -85,10 +85,10 @@ tries_of Said.NoRanks =
     "a base case that ends everywhere, n <= 0 in place of n == 0; a loop with its test in front")
 tries_of (Said.Depth depth) =
     Some (codes
-    "a greater --depth; --pre, if it is to hold for some arguments only; a recursion for a loop")
+    "a greater --depth; --pre, if it is to hold for some arguments only; smaller parts")
 tries_of (Said.Visits visits) =
     Some (codes
-    "a greater --budget; --pre, if it is to hold for some arguments only; a recursion for a loop")
+    "a greater --budget; --pre, if it is to hold for some arguments only; smaller parts")
 tries_of Said.LongSource = Some (codes "to leave out what the two functions don't need")
 tries_of (Said.NoFunction name) = Some (codes "another spelling of the name")
 tries_of (Said.Arity first second) = Some (codes "the same parameters for both, in the same order")
@@ -97,6 +97,7 @@ tries_of (Said.PreParse Flaw.NotARowForm) =
 tries_of (Said.Box count) = Some (codes "a smaller --box")
 tries_of (Said.Line number) = Some (codes "docs/LOG-FORMAT.md, which says what each line is")
 tries_of (Said.Check end) = tries_after_check end
+tries_of Said.ReadFault = Some (codes "the names of the files, and whether they may be read")
 tries_of Said.LargeTranslate = Some (codes "to compare smaller parts")
 tries_of Said.LargePre = Some (codes "to compare smaller parts")
 tries_of Said.LargeSearch = Some (codes "to compare smaller parts")

@@ -1,5 +1,5 @@
 //! What a run says on standard error.
-ghost use Rattle.std.specs.Prelude.{◌≡◌, ⊤, map, string_bytes, IfOk, MatchOption};
+ghost use Rattle.std.specs.Prelude.{◌≡◌, ◌≤◌, ⊤, map, string_bytes, IfOk, MatchOption};
 ghost use Rattle.rx_command.specs.Commands as words_say;
 ghost use Rattle.rx_command.specs.Commands.{bytes_of};
 ghost use Rattle.rx_io.specs.Outside.{Rose};
@@ -7,46 +7,18 @@ ghost use Rattle.rx_messages.specs.Asked as spec_asked;
 ghost use Rattle.rx_messages.specs.Asked.{asked_view};
 ghost use Rattle.rx_messages.specs.Explaining as spec;
 ghost use Rattle.rx_messages.specs.Explaining.{Explains};
-ghost use Rattle.rx_messages.specs.Steps.{ReadsGiven, MeansEnd};
+ghost use Rattle.rx_messages.specs.Steps.{ReadsGiven};
 ghost use Rattle.rx_report.specs.Texts.{IsReportableVerdict};
 
 use crate::asked::{Asked, asked_of, file_of};
 use crate::faults::{is_about_pre, place_of};
+use crate::logs::facts_of;
 use crate::messages::message;
+use crate::silences::{Silence, silence_of};
 use rx_command::command_of;
-use rx_io::{Files, ReadEnd, Sink, put_all, read_all};
-use rx_plain::NoMemory;
+use rx_io::{Files, Sink, put_all, read_all};
 use rx_report::{Status, Verdict};
 use std::alloc::Global;
-use thiserror::Error;
-
-/// Why a message isn't written whole.
-#[derive(Clone, Copy, Debug, PartialEq, Eq, Error)]
-pub enum Silence {
-    /// There was no memory. Nothing is written.
-    #[error("no memory")]
-    NoMemory,
-    /// The text that the report is about can't be read now. Nothing is written.
-    #[error("the file can't be read")]
-    Unread,
-    /// The text has no such place as the report names, so it changed meanwhile. Nothing is written.
-    #[error("the file has changed")]
-    Changed,
-    /// A write failed, or took nothing. A part of the message is written.
-    #[error("the output failed")]
-    Cut,
-}
-
-impl From<NoMemory> for Silence {
-    ghost use Rattle.std.specs.Prelude.{◌≡◌};
-    ghost use Rattle.rx_messages.specs.declared.explaining.Silence.TheVariants.{NoMemory};
-
-    ghost from_gives = { λ _ e. e ≡ NoMemory };
-
-    fn from(_refused: NoMemory) -> Silence {
-        Silence::NoMemory
-    }
-}
 
 // The most bytes of a source.
 const LONGEST_SOURCE: u32 = 1_048_576;
@@ -72,16 +44,6 @@ fn name_read<'a>(asked: &Asked<'a>, verdict: &Option<Verdict>) -> Option<&'a str
     }
 }
 
-// What a fault of a reading means for the message.
-fn silence_of(end: ReadEnd) -> Silence
-    ensures { MeansEnd end result }
-{
-    match end {
-        ReadEnd::NoMemory => Silence::NoMemory,
-        ReadEnd::Failed | ReadEnd::TooLong => Silence::Unread,
-    }
-}
-
 // The bytes of the file with this name; none where there is no name.
 fn read_given<F: Files>(
     alloc: Global,
@@ -89,6 +51,8 @@ fn read_given<F: Files>(
     name: Option<&str>,
 ) -> Result<Vec<u8>, Silence>
     ensures reach { F.reaches files.old files.new }
+    ensures held { F.held files.new ≡ F.held files.old }
+    ensures later { F.faults files.old ≤ F.faults files.new }
     ensures reads { ReadsGiven (F.held files.old) (Rose (F.faults files.old) (F.faults files.new))
         (bytes_of name.entry) result }
 {
@@ -104,8 +68,9 @@ fn read_given<F: Files>(
 ///
 /// `status` says how the run ended, and `verdict` what it reported, where that was a line of a
 /// verdict. Where the verdict names a place in the text of the functions, the text is read again;
-/// the place is shown by its line and column, with the line. Else the message says in words what
-/// was tried, and what to try. Nothing else is read, and the report isn't touched.
+/// the place is shown by its line and column, with the line. Where it is about a line of the log,
+/// that is read again, in pieces, and the line is shown. Else the message says in words what was
+/// tried, and what to try. Nothing else is read, and the report isn't touched.
 pub fn explain<F: Files, O: Sink>(
     alloc: Global,
     words: &[String],
@@ -125,7 +90,8 @@ pub fn explain<F: Files, O: Sink>(
     let command = command_of(alloc, words)?;
     let asked = asked_of(&command);
     let given = read_given(alloc, files, name_read(&asked, &verdict))?;
-    let Some(text) = message(alloc, &asked, status, verdict, &given)? else {
+    let facts = facts_of(alloc, files, asked.log, &verdict)?;
+    let Some(text) = message(alloc, &asked, status, verdict, &given, &facts)? else {
         return Err(Silence::Changed);
     };
     match put_all(err, &text) {

@@ -5,9 +5,12 @@
 mod asked;
 mod explaining;
 mod faults;
+mod logs;
 mod messages;
 mod remarks;
+mod silences;
 
-pub use explaining::{Silence, explain};
+pub use explaining::explain;
 pub use faults::Place;
 pub use rx_places::NoMemory;
+pub use silences::Silence;

@@ -2,6 +2,7 @@
 ghost use Rattle.std.specs.Prelude.{◌≡◌, ◌++◌, ◌-◌, List, [], Option, Some, ⊤, codes, decimal, length, option_map, IfOk, MatchOption, OnOk};
 ghost use Rattle.rx_command.specs.Commands.{bytes_of, functions_view};
 ghost use Rattle.rx_messages.specs.Asked.{asked_view};
+ghost use Rattle.rx_messages.specs.Logs.{facts_view};
 ghost use Rattle.rx_messages.specs.Messages as spec;
 ghost use Rattle.rx_messages.specs.Faults as faults;
 ghost use Rattle.rx_messages.specs.Steps.{MakesSome, bytes_in};
@@ -10,6 +11,7 @@ ghost use Rattle.rx_report.specs.Texts.{IsReportableVerdict};
 
 use crate::asked::{Asked, condition_of, file_of, push_call, push_file};
 use crate::faults::{Place, is_about_pre, place_of, spot_at};
+use crate::logs::{Facts, push_line_number, push_log_line};
 use crate::remarks::{is_about_log, mode_after, tries_of, words_of};
 use rx_command::Functions;
 use rx_places::{
@@ -171,27 +173,20 @@ fn push_thing(out: &mut Vec<u8>, asked: &Asked<'_>, verdict: &Verdict) -> Result
     }
 }
 
-// Adds the number of the log's line.
-fn push_line_part(out: &mut Vec<u8>, verdict: &Verdict) -> Result<(), NoMemory>
-    ensures { OnOk result (out.new.items ≡ out.old.items ++ spec.line_part verdict.now) }
-{
-    match verdict {
-        Verdict::Line(number) => {
-            push_word(out, b":")?;
-            push_number(out, *number)
-        }
-        _ => Ok(()),
-    }
-}
-
 // Adds the name of what a report is about.
-fn push_remark_name(out: &mut Vec<u8>, asked: &Asked<'_>, verdict: &Verdict) -> Result<(), NoMemory>
+fn push_remark_name(
+    out: &mut Vec<u8>,
+    asked: &Asked<'_>,
+    verdict: &Verdict,
+    facts: &Facts,
+) -> Result<(), NoMemory>
     ensures { OnOk result (out.new.items
-        ≡ out.old.items ++ spec.remark_name (asked_view asked.now) verdict.now) }
+        ≡ out.old.items ++ spec.remark_name (asked_view asked.now) verdict.now
+        (facts_view facts.now)) }
 {
     if is_about_log(verdict) {
         push_file(out, asked.log)?;
-        push_line_part(out, verdict)
+        push_line_number(out, facts.number)
     } else {
         push_subject_name(out, asked, verdict)
     }
@@ -229,16 +224,23 @@ fn push_advice(out: &mut Vec<u8>, asked: &Asked<'_>, verdict: &Verdict) -> Resul
 }
 
 // The message on a report that names no place.
-fn remark(alloc: Global, asked: &Asked<'_>, verdict: &Verdict) -> Result<Vec<u8>, NoMemory>
+fn remark(
+    alloc: Global,
+    asked: &Asked<'_>,
+    verdict: &Verdict,
+    facts: &Facts,
+) -> Result<Vec<u8>, NoMemory>
     requires { IsReportableVerdict verdict.now }
-    ensures { IfOk result (λ text. text.items ≡ spec.remark (asked_view asked.now) verdict.now) }
+    ensures { IfOk result (λ text. text.items
+        ≡ spec.remark (asked_view asked.now) verdict.now (facts_view facts.now)) }
 {
     let mut out = Vec::new(alloc);
-    push_remark_name(&mut out, asked, verdict)?;
+    push_remark_name(&mut out, asked, verdict, facts)?;
     push_word(&mut out, kind_of(verdict.status()))?;
     push_thing(&mut out, asked, verdict)?;
     push_word(&mut out, words_of(verdict))?;
     push_closing(alloc, &mut out, verdict)?;
+    push_log_line(&mut out, facts.number, &facts.line)?;
     push_advice(&mut out, asked, verdict)?;
     Ok(out)
 }
@@ -336,14 +338,15 @@ fn on_place(
     asked: &Asked<'_>,
     given: &[u8],
     verdict: &Verdict,
+    facts: &Facts,
 ) -> Result<Option<Vec<u8>>, NoMemory>
     requires { IsReportableVerdict verdict.now }
     ensures { IfOk result (MakesSome (spec.on_place (asked_view asked.now) given.now verdict.now
-        (faults.place_of verdict.now))) }
+        (facts_view facts.now) (faults.place_of verdict.now))) }
 {
     match place_of(verdict) {
         Some(place) => at_place(alloc, asked, given, verdict, place),
-        None => Ok(Some(remark(alloc, asked, verdict)?)),
+        None => Ok(Some(remark(alloc, asked, verdict, facts)?)),
     }
 }
 
@@ -353,13 +356,15 @@ fn of_verdict(
     asked: &Asked<'_>,
     given: &[u8],
     verdict: &Verdict,
+    facts: &Facts,
 ) -> Result<Option<Vec<u8>>, NoMemory>
     requires { IsReportableVerdict verdict.now }
-    ensures { IfOk result (MakesSome (spec.of_verdict (asked_view asked.now) given.now verdict.now)) }
+    ensures { IfOk result (MakesSome (spec.of_verdict (asked_view asked.now) given.now verdict.now
+        (facts_view facts.now))) }
 {
     match verdict {
         Verdict::Usage => Ok(Some(usage(alloc)?)),
-        _ => on_place(alloc, asked, given, verdict),
+        _ => on_place(alloc, asked, given, verdict, facts),
     }
 }
 
@@ -370,13 +375,14 @@ fn on_report(
     status: Status,
     verdict: Option<Verdict>,
     given: &[u8],
+    facts: &Facts,
 ) -> Result<Option<Vec<u8>>, NoMemory>
     requires { MatchOption verdict ⊤ IsReportableVerdict }
-    ensures { IfOk result (MakesSome
-        (spec.on_report (asked_view asked.now) status verdict given.now)) }
+    ensures { IfOk result (MakesSome (spec.on_report (asked_view asked.now) status verdict given.now
+        (facts_view facts.now))) }
 {
     match verdict {
-        Some(verdict) => of_verdict(alloc, asked, given, &verdict),
+        Some(verdict) => of_verdict(alloc, asked, given, &verdict, facts),
         None => Ok(Some(of_status(alloc, asked, status)?)),
     }
 }
@@ -392,20 +398,21 @@ fn is_yes(status: Status) -> bool
 }
 
 /// The message on a run, with the verdict that it reported, if it did; none where what was read has
-/// no such place as the verdict names.
+/// no such place as the verdict names. `facts` is what is known of the log.
 pub(crate) fn message(
     alloc: Global,
     asked: &Asked<'_>,
     status: Status,
     verdict: Option<Verdict>,
     given: &[u8],
+    facts: &Facts,
 ) -> Result<Option<Vec<u8>>, NoMemory>
     requires { MatchOption verdict ⊤ IsReportableVerdict }
-    ensures { IfOk result (MakesSome
-        (spec.message (asked_view asked.now) status verdict given.now)) }
+    ensures { IfOk result (MakesSome (spec.message (asked_view asked.now) status verdict given.now
+        (facts_view facts.now))) }
 {
     if is_yes(status) {
         return Ok(Some(Vec::new(alloc)));
     }
-    on_report(alloc, asked, status, verdict, given)
+    on_report(alloc, asked, status, verdict, given, facts)
 }

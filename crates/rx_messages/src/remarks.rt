@@ -107,12 +107,12 @@ pub(crate) fn tries_of(verdict: &Verdict) -> Option<&'static [u8]>
         }
         Verdict::Depth(_) => {
             Some(
-                b"a greater --depth; --pre, if it is to hold for some arguments only; a recursion for a loop",
+                b"a greater --depth; --pre, if it is to hold for some arguments only; smaller parts",
             )
         }
         Verdict::Visits(_) => {
             Some(
-                b"a greater --budget; --pre, if it is to hold for some arguments only; a recursion for a loop",
+                b"a greater --budget; --pre, if it is to hold for some arguments only; smaller parts",
             )
         }
         Verdict::LongSource => Some(b"to leave out what the two functions don't need"),
@@ -124,6 +124,7 @@ pub(crate) fn tries_of(verdict: &Verdict) -> Option<&'static [u8]>
         Verdict::Box(_) => Some(b"a smaller --box"),
         Verdict::Line(_) => Some(b"docs/LOG-FORMAT.md, which says what each line is"),
         Verdict::Check(end) => tries_after_check(*end),
+        Verdict::ReadFault => Some(b"the names of the files, and whether they may be read"),
         Verdict::LargeTranslate | Verdict::LargePre | Verdict::LargeSearch => {
             Some(b"to compare smaller parts")
         }

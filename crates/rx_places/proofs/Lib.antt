@@ -1,1 +1,2 @@
 -- Lemmas on places.
+pub mod FrontLemmas

@@ -63,6 +63,11 @@ abbrev pub excerpt : List ℕ → Spot → List ℕ
 excerpt text spot =
     line_text (line_at text spot.at) ++ mark_text (line_at text spot.at) spot.len
 
+-- a line under its number; of more than 200 bytes the first
+abbrev pub numbered : ℕ → List ℕ → List ℕ
+numbered number line =
+    codes "  " ++ (decimal number ++ (codes " | " ++ (first_shown 200 line ++ codes "\n")))
+
 -- ---- the values of the code
 
 abbrev pub line_view : code.Line → Line

@@ -141,3 +141,14 @@ pub fn push_excerpt(out: &mut Vec<u8>, text: &[u8], spot: Spot) -> Result<(), No
     push_line(out, &line)?;
     push_mark(out, &line, spot.len)
 }
+
+/// Adds a line under its number; of more than 200 bytes the first.
+pub fn push_numbered_line(out: &mut Vec<u8>, number: usize, line: &[u8]) -> Result<(), NoMemory>
+    ensures { OnOk result (out.new.items ≡ out.old.items ++ spec.numbered number line.now) }
+{
+    push_word(out, b"  ")?;
+    push_number(out, number)?;
+    push_word(out, b" | ")?;
+    push_first(out, 200, line)?;
+    push_word(out, b"\n")
+}

@@ -7,12 +7,15 @@
 #![tactic(auto)]
 
 mod excerpts;
+mod line_front;
 mod pieces;
 mod places;
 mod spots;
 
-pub use excerpts::push_excerpt;
+pub use excerpts::{push_excerpt, push_numbered_line};
+pub use line_front::line_in_file;
 pub use pieces::{push_name, push_number, push_quoted, push_word};
 pub use places::{column_of, line_of};
+pub use rx_io::ReadEnd;
 pub use rx_plain::NoMemory;
 pub use spots::{Spot, spot_of_fault, spot_of_token};

@@ -6,7 +6,9 @@ use std::alloc::Global;
 pub fn answer(alloc: Global, call: &str, given: &str) -> Option<String> {
     match call {
         "run" | "spaces" | "whole" | "memory" => running::answer(alloc, call, given),
-        "message" | "long message" => messages::answer(alloc, call, given),
+        "message" | "long message" | "unwritten message" | "unheard message" | "other message" => {
+            messages::answer(alloc, call, given)
+        }
         _ => None,
     }
 }

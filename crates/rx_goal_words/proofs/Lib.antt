@@ -1,0 +1,1 @@
+-- Lemmas on goals in words.
