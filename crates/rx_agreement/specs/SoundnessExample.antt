@@ -46,6 +46,7 @@ returns s = record { left = Call s []; right = Return (number (pos 0)); rows = [
 abbrev pub parts : RuleParts
 parts = record {
   symbols = an_entry ∷ an_end ∷ an_entry ∷ an_end ∷ [];
+  domains = [];
   rules = returns first ∷ returns (symbol 1) ∷ returns second ∷ returns (symbol 3) ∷ [];
   fails = 1;
 }

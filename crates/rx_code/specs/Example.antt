@@ -123,7 +123,7 @@ sums_rules =
     ∷ []
 
 abbrev pub sums_parts : RuleParts
-sums_parts = record { symbols = sums_symbols; rules = sums_rules; fails = 1 }
+sums_parts = record { symbols = sums_symbols; domains = []; rules = sums_rules; fails = 1 }
 
 -- ---- a division that may fail: five symbols, six rules
 
@@ -168,7 +168,7 @@ division_rules =
     ∷ []
 
 abbrev pub division_parts : RuleParts
-division_parts = record { symbols = division_symbols; rules = division_rules; fails = 1 }
+division_parts = record { symbols = division_symbols; domains = []; rules = division_rules; fails = 1 }
 
 -- ---- most of the other forms: 26 symbols, 37 rules
 
@@ -291,7 +291,7 @@ forms_rules =
     ∷ []
 
 abbrev pub forms_parts : RuleParts
-forms_parts = record { symbols = forms_symbols; rules = forms_rules; fails = 1 }
+forms_parts = record { symbols = forms_symbols; domains = []; rules = forms_rules; fails = 1 }
 
 -- ---- what the first three leave out; the first function is not reached: 35 symbols, 49 rules
 
@@ -456,7 +456,7 @@ walks_rules =
     ∷ []
 
 abbrev pub walks_parts : RuleParts
-walks_parts = record { symbols = walks_symbols; rules = walks_rules; fails = 1 }
+walks_parts = record { symbols = walks_symbols; domains = []; rules = walks_rules; fails = 1 }
 
 -- ---- a call and a test; the first function is not reached: eight symbols, ten rules
 
@@ -506,7 +506,7 @@ calls_rules =
     ∷ []
 
 abbrev pub calls_parts : RuleParts
-calls_parts = record { symbols = calls_symbols; rules = calls_rules; fails = 1 }
+calls_parts = record { symbols = calls_symbols; domains = []; rules = calls_rules; fails = 1 }
 
 -- ---- one function of more parameters than a symbol may have variables
 

@@ -109,6 +109,7 @@ info_at c o = record {
 abbrev pub parts_of : Code → RuleParts
 parts_of c = record {
   symbols = map (info_at c) (enumerate_from 0 c.opened);
+  domains = [];
   rules = flat_map (λ (o : ℕ × Opening). rules_at c o.0) (enumerate_from 0 c.opened);
   fails = 1;
 }

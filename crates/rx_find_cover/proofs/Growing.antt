@@ -139,7 +139,7 @@ module _ (parts : RuleParts) where
 -- a rule set is that of its parts
 pub parts_are : (parts : RuleParts) {symbols : List SymInfo} {rules : List Rule} → symbols ≡
     parts.symbols → rules ≡ parts.rules → parts_of symbols rules parts.fails ≡ parts
-parts_are parts e f = λ i. record { symbols = e i; rules = f i; fails = parts.fails }
+parts_are parts e f = λ i. record { symbols = e i; domains = parts.domains; rules = f i; fails = parts.fails }
 
 -- ---- one turn of the walk over the symbols
 

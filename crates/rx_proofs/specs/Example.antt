@@ -33,7 +33,7 @@ abbrev pub fails : Sym → Rule
 fails s = record { left = Call s []; right = Fail 1; rows = [] }
 
 abbrev pub example : RuleParts
-example = record { symbols = point ∷ point ∷ []; rules = fails f ∷ fails g ∷ []; fails = 1 }
+example = record { symbols = point ∷ point ∷ []; domains = []; rules = fails f ∷ fails g ∷ []; fails = 1 }
 
 -- two terms are equal everywhere
 abbrev pub equal : Term → Term → Equation

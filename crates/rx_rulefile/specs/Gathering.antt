@@ -10,7 +10,7 @@ use Rattle.rx_rulefile.specs.declared.rule_line.RuleLine.TheVariants as line
 
 -- nothing yet
 abbrev pub blank : Gathered
-blank = record { parts = record { symbols = []; rules = []; fails = 0 }; goal = None }
+blank = record { parts = record { symbols = []; domains = []; rules = []; fails = 0 }; goal = None }
 
 -- with what a line says
 abbrev pub pushed : RuleLine → Gathered → Gathered

@@ -22,6 +22,7 @@ impl Gathered {
         Gathered {
             parts: RuleParts {
                 symbols: Items::new(alloc),
+                domains: Items::new(alloc),
                 rules: Items::new(alloc),
                 fails: 0,
             },

@@ -10,7 +10,7 @@ use Rattle.rx_rewriting.specs.Premises.{ClosedUnderSubterms, Reducible}
 use Rattle.rx_rewriting.proofs.UnderFrames.{Fits-inner, moves_under_frames}
 use Rattle.rx_row.proofs.SubstitutionLaws.{subst_rows-hold}
 use Rattle.rx_poly.specs.Substitution.{updated_assignment}
-use Rattle.rx_term.specs.Covered.{HasRule, Domains, IsCoveredOver, IsCovered, everywhere, KeepsDomains, CanStep}
+use Rattle.rx_term.specs.Covered.{HasRule, RedexArguments, IsCoveredOver, IsCovered, everywhere, KeepsDomains, CanStep}
 use Rattle.rx_term.specs.Fitting.{term_fits}
 use Rattle.rx_term.specs.Meaning.{Instance, IsRedex, CallRedex, ground_at, matched, signature}
 use Rattle.rx_term.specs.Paired.{rules_of_shape}
@@ -37,7 +37,7 @@ rule_for rules t a has =
       holds = (subst_rows-hold a (matched t) has.rule.rows).1 has.holds;
     }
 
-module _ (parts : RuleParts) (domains : Domains) (covered : IsCoveredOver domains parts) where
+module _ (parts : RuleParts) (domains : RedexArguments) (covered : IsCoveredOver domains parts) where
   -- a fitting redex whose arguments are of its domain has one
   pub can_step : (t : Term) (a : ℕ → ℤ) → IsRedex t → term_fits parts t ≡ true →
       domains (shape_of t) (updated_assignment a (matched t)) → CanStep parts.rules t a

@@ -18,17 +18,17 @@ pub record HasRule (rules : List Rule) (shape : Shape) (a : ℕ → ℤ) : Type 
   pub holds : AllHold a rule.rows
 
 -- which arguments, given by the assignment, a redex of the shape may have
-abbrev pub Domains : Type 1
-Domains = Shape → (ℕ → ℤ) → Type 0
+abbrev pub RedexArguments : Type 1
+RedexArguments = Shape → (ℕ → ℤ) → Type 0
 
 -- there is such a rule for each shape of a redex, at all arguments of its domain
-abbrev pub IsCoveredOver : Domains → RuleParts → Type 0
+abbrev pub IsCoveredOver : RedexArguments → RuleParts → Type 0
 IsCoveredOver domains parts =
     (shape : Shape) → IsRedexShape parts shape → (a : ℕ → ℤ) → domains shape a
     → HasRule parts.rules shape a
 
 -- every argument is allowed
-abbrev pub everywhere : Domains
+abbrev pub everywhere : RedexArguments
 everywhere shape a = Unit {0}
 
 -- there is such a rule for each shape of a redex, at all arguments
@@ -36,7 +36,7 @@ abbrev pub IsCovered : RuleParts → Type 0
 IsCovered parts = IsCoveredOver everywhere parts
 
 -- the redexes of the set of ground terms have arguments of their domains
-abbrev pub KeepsDomains : TermSet → Domains → Type 0
+abbrev pub KeepsDomains : TermSet → RedexArguments → Type 0
 KeepsDomains inside domains =
     (t : Term) → IsRedex t → (a : ℕ → ℤ) → inside (ground_at a t)
     → domains (shape_of t) (updated_assignment a (matched t))

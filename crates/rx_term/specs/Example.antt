@@ -11,7 +11,7 @@ use Rattle.rx_poly.specs.Limits.{body_sum}
 use Rattle.rx_row.specs.declared.row.Row.TheVariants.{Eq, Ne}
 use Rattle.rx_rewriting.specs.Terms as stack
 use Rattle.rx_rewriting.specs.Terms.{Ground, Fits, TermSet}
-use Rattle.rx_term.specs.Covered.{Domains}
+use Rattle.rx_term.specs.Covered.{RedexArguments}
 use Rattle.rx_term.specs.Meaning.{signature}
 use Rattle.rx_term.specs.Shapes as shape
 use Rattle.rx_term.specs.declared.rule.Rule.{Rule}
@@ -56,6 +56,7 @@ abbrev pub example : RuleParts
 example = record {
   symbols = record { arity = 1; frame = false; entry = true; head = false }
       ∷ record { arity = 1; frame = true; entry = false; head = false } ∷ [];
+  domains = [];
   rules = ends ∷ goes_on ∷ adds ∷ fails ∷ [];
   fails = 1;
 }
@@ -81,7 +82,7 @@ abbrev pub negative_call : Ground
 negative_call = stack.Call 0 (negsuc 0 ∷ [])
 
 -- the arguments that redexes have there
-abbrev pub counting : Domains
+abbrev pub counting : RedexArguments
 counting shape.Return a = Unit {0}
 counting (shape.Fail c) a = Unit {0}
 counting (shape.Call s) a = AtLeastZero (a 0)

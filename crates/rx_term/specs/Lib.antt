@@ -3,6 +3,7 @@ pub mod Assigned
 pub mod Bounds
 pub mod Covered
 pub mod Differences
+pub mod Domains
 pub mod Example
 pub mod Fitting
 pub mod MadeTest

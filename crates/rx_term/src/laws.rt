@@ -15,7 +15,7 @@ ghost use Rattle.rx_row.specs.Variables.{rows_bound, rows_use_below};
 ghost use Rattle.rx_row.specs.declared.row.Row.{Row};
 ghost use Rattle.rx_term.specs.Assigned.{assigned};
 ghost use Rattle.rx_term.specs.Bounds.{equation_bound, term_bound};
-ghost use Rattle.rx_term.specs.Covered.{CanStep, Domains, IsCovered, IsCoveredOver, KeepsDomains};
+ghost use Rattle.rx_term.specs.Covered.{CanStep, RedexArguments, IsCovered, IsCoveredOver, KeepsDomains};
 ghost use Rattle.rx_term.specs.Example.{IsInside, counting, example, negative_call};
 ghost use Rattle.rx_term.specs.Fitting.{term_fits};
 ghost use Rattle.rx_term.specs.Meaning.{Instance, IsRedex, ground_at, ground_redex, matched, outer_frames, redex_of, signature, values};
@@ -156,7 +156,7 @@ pub fn covered_sets_step()
 pub trait Inside {
     ghost inside: { TermSet };
 
-    ghost domains: { Domains };
+    ghost domains: { RedexArguments };
 }
 
 /// The same inside a set of fitting terms that has the inner part of each of its terms: there the

@@ -1,5 +1,6 @@
-//! Rule sets: the symbols, the rules and the greatest failure code.
-ghost use Rattle.std.specs.Prelude.{◌≡◌, ◌↔◌, IsTrue, IfOk, IfSome, IsSome};
+//! Rule sets: the symbols with their domains, the rules and the greatest failure code.
+ghost use Rattle.std.specs.Prelude.{◌≡◌, ◌↔◌, true, IsTrue, IfOk, IfSome, IsSome};
+ghost use Rattle.rx_term.specs.Domains.{are_domains, domain_of};
 ghost use Rattle.rx_term.specs.Fitting.{term_fits, is_declared};
 ghost use Rattle.rx_term.specs.MadeTest.{is_made, is_well_made};
 ghost use Rattle.rx_term.specs.WellMade.{IsWellMade};
@@ -8,7 +9,7 @@ use crate::left_side::left_width;
 use crate::rule::Rule;
 use crate::term::{Sym, Term};
 use rx_plain::Items;
-use rx_row::rows_use_below;
+use rx_row::{Constraint, Row, rows_use_below};
 use std::alloc::{AllocError, Global};
 use std::marker::Model;
 
@@ -42,6 +43,9 @@ impl SymInfo {
 pub struct RuleParts {
     /// The symbols by their numbers.
     pub symbols: Items<SymInfo>,
+    /// The domain of each symbol by its number: rows over its arguments v0, v1, and so on. A symbol
+    /// after the last list has no rows.
+    pub domains: Items<Constraint>,
     /// The rules by their numbers.
     pub rules: Items<Rule>,
     /// The greatest failure code; the codes are counted from 1.
@@ -108,13 +112,32 @@ impl RuleParts {
         true
     }
 
-    /// Whether the two have the same symbols, rules and greatest code. Takes no memory.
+    /// Whether each list of the domains is over the arguments of its symbol, and there are no more
+    /// lists than symbols.
+    fn has_domains(&self) -> bool
+        ensures { result ≡ are_domains self.now.symbols self.now.domains }
+    {
+        let mut infos = self.symbols.as_slice();
+        for rows in self.domains.as_slice() {
+            let Some((info, more)) = infos.split_first() else {
+                return false;
+            };
+            if !rows_use_below(rows.rows(), info.arity) {
+                return false;
+            }
+            infos = more;
+        }
+        true
+    }
+
+    /// Whether the two have the same symbols, domains, rules and greatest code. Takes no memory.
     pub fn is_same(&self, other: &RuleParts) -> bool
         ensures { IsTrue result ↔ (self.now ≡ other.now) }
     {
         self.fails == other.fails
             && are_same_symbols(self.symbols.as_slice(), other.symbols.as_slice())
             && are_same_rules(self.rules.as_slice(), other.rules.as_slice())
+            && are_same_domains(self.domains.as_slice(), other.domains.as_slice())
     }
 
     /// The same parts once more; fails only when out of memory.
@@ -122,9 +145,11 @@ impl RuleParts {
         ensures { IfOk result (λ p. p ≡ self.now) }
     {
         let symbols = Items::from_slice(alloc, self.symbols.as_slice())?;
+        let domains = copied_domains(alloc, self.domains.as_slice())?;
         let rules = copied_rules(alloc, self.rules.as_slice())?;
         Ok(RuleParts {
             symbols,
+            domains,
             rules,
             fails: self.fails,
         })
@@ -169,6 +194,25 @@ fn are_same_rules(left: &[Rule], right: &[Rule]) -> bool
     rest.is_empty() && others.is_empty()
 }
 
+/// Whether the two lists have the same domains.
+fn are_same_domains(left: &[Constraint], right: &[Constraint]) -> bool
+    ensures { IsTrue result ↔ (left.now ≡ right.now) }
+{
+    let mut rest = left;
+    let mut others = right;
+    while let (Some((one, more)), Some((other, further))) = (
+        rest.split_first(),
+        others.split_first(),
+    ) {
+        if !one.is_same(other) {
+            return false;
+        }
+        rest = more;
+        others = further;
+    }
+    rest.is_empty() && others.is_empty()
+}
+
 /// The same rules once more.
 fn copied_rules(alloc: Global, rules: &[Rule]) -> Result<Items<Rule>, AllocError>
     ensures { IfOk result (λ made. made ≡ rules.now) }
@@ -180,9 +224,21 @@ fn copied_rules(alloc: Global, rules: &[Rule]) -> Result<Items<Rule>, AllocError
     Ok(made)
 }
 
+/// The same domains once more.
+fn copied_domains(alloc: Global, domains: &[Constraint]) -> Result<Items<Constraint>, AllocError>
+    ensures { IfOk result (λ made. made ≡ domains.now) }
+{
+    let mut made = Items::new(alloc);
+    for rows in domains {
+        made.push(rows.try_clone(alloc)?)?;
+    }
+    Ok(made)
+}
+
 /// A set of rules that is well made: each left side is a point over v0, v1, .. or a frame over
 /// these and over the next variable or a failure code, all terms fit the symbols, and right sides
-/// and rows use only variables of their left side.
+/// and rows use only variables of their left side. Each symbol has a domain, rows over its
+/// arguments alone.
 #[derive(Drop)]
 pub struct RuleSet {
     parts: RuleParts,
@@ -198,23 +254,29 @@ impl Model for RuleSet {
 
     ghost coded = { Prim.hlevel (codes, parts_row.the_row.coded) };
 
+    ghost use Rattle.std.specs.Prelude.{◌&&◌};
+    ghost use Rattle.rx_term.specs.Domains.{are_domains};
     ghost use Rattle.rx_term.specs.MadeTest.{is_well_made};
 
     ghost view = { λ s. s.parts };
 
-    ghost invariant = { λ s. is_well_made s.parts ≡ true };
+    ghost invariant = { λ s.
+        (is_well_made s.parts && are_domains s.parts.symbols s.parts.domains) ≡ true };
 
     ghost inverse = { λ p. record { parts = p } };
 }
 
 impl RuleSet {
-    /// The rule set of these parts; None exactly where they are not well made. Takes no memory.
+    /// The rule set of these parts; None exactly where they are not well made, or a domain uses
+    /// another variable than its symbol's arguments, or there are more domains than symbols. Takes
+    /// no memory.
     #[tactic(auto, using(crate::proofs::MadeLaws::test_of_well_made))]
     pub fn from_parts(parts: RuleParts) -> Option<RuleSet>
         ensures same { IfSome result (λ s. s ≡ parts) }
-        ensures exact { IsSome result ↔ IsWellMade parts }
+        ensures exact { IsSome result ↔
+            (IsWellMade parts × (are_domains parts.symbols parts.domains ≡ true)) }
     {
-        if parts.is_well_made() {
+        if parts.is_well_made() && parts.has_domains() {
             Some(RuleSet { parts })
         } else {
             None
@@ -225,6 +287,7 @@ impl RuleSet {
     pub fn parts(&self) -> &RuleParts
         ensures parts { result.now ≡ self.now }
         ensures made { IsWellMade self.now }
+        ensures domains { are_domains self.now.symbols self.now.domains ≡ true }
     {
         &self.parts
     }
@@ -241,6 +304,17 @@ impl RuleSet {
         ensures { result.now ≡ self.now.rules }
     {
         self.parts.rules.as_slice()
+    }
+
+    /// The domain of a symbol, borrowed: rows over its arguments v0, v1, and so on, all of which
+    /// are to hold. Empty where it has none.
+    pub fn domain(&self, sym: Sym) -> &[Row]
+        ensures { result.now ≡ domain_of self.now sym.0 }
+    {
+        match self.parts.domains.as_slice().get(sym.0 as usize) {
+            Some(rows) => rows.rows(),
+            None => &[],
+        }
     }
 
     /// The greatest failure code.

@@ -122,6 +122,7 @@ pub fn parts_of(alloc: Global, code: &Code) -> Result<RuleParts, PolyEnd>
     let rules = joined(alloc, sorted_rules(alloc, code)?)?;
     Ok(RuleParts {
         symbols: symbols_of(alloc, code)?,
+        domains: Items::new(alloc),
         rules,
         fails: 1,
     })

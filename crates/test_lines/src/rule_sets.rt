@@ -1,6 +1,7 @@
 //! Rule sets from their parts.
 use crate::rewriting::rules;
 use crate::signatures::symbols;
+use rx_plain::Items;
 use rx_term::{RuleParts, RuleSet};
 use std::alloc::Global;
 
@@ -11,6 +12,7 @@ pub fn parts(alloc: Global, given: &str) -> Option<RuleParts> {
     let fails = fails.parse::<u8>().ok()?;
     Some(RuleParts {
         symbols: symbols(alloc, listed)?,
+        domains: Items::new(alloc),
         rules: rules(alloc, rules_text)?,
         fails,
     })

@@ -9,6 +9,7 @@ use test_lines::{Answer, equation, rule_of, six_symbols, told};
 fn parts(alloc: Global, rules: Items<Rule>) -> Option<RuleParts> {
     Some(RuleParts {
         symbols: six_symbols(alloc)?,
+        domains: Items::new(alloc),
         rules,
         fails: 2,
     })

@@ -94,6 +94,7 @@ fn set_of(alloc: Global, rules: Items<Rule>) -> Option<RuleSet> {
     let symbols = six_symbols(alloc)?;
     RuleSet::from_parts(RuleParts {
         symbols,
+        domains: Items::new(alloc),
         rules,
         fails: 2,
     })

@@ -11,7 +11,7 @@ returns-clause-stands c =
 pub returns-clause-step : goal.returns-clause-step
 returns-clause-step c =
     let check : LogCheck = record { reader = c.new.result; replayer = c.in_ok-replayer.replayer } in
-    let parts : RuleParts = record { symbols = []; rules = []; fails = 0 } in
+    let parts : RuleParts = record { symbols = []; domains = []; rules = []; fails = 0 } in
     record {
       place =
           starts {check = check} parts c.args.goal c.new.ensures
