@@ -99,6 +99,16 @@ last it at = record {
       sym (append_assoc (set_lines it.parts) (goal_lines it.goal) (line.End ∷ []));
 }
 
+-- no line says anything of domains
+pub keeps_domains : (read : RuleLine) (it : Gathered) → (pushed read it).parts.domains ≡
+    it.parts.domains
+keeps_domains line.Header it = refl
+keeps_domains (line.Fails code) it = refl
+keeps_domains (line.Symbol n s) it = refl
+keeps_domains (line.Rule r) it = refl
+keeps_domains (line.Equation e) it = refl
+keeps_domains line.End it = refl
+
 -- ---- all of them
 
 chosen : (b : Bool) (x y : Place) → (if b then Some x else None) ≡ Some y → (b ≡ true) × (x ≡ y)
@@ -145,10 +155,12 @@ pub record IsWhole (it : Gathered) (read : List RuleLine) : Type 0 where
   pub goal : Equation
   pub is : it.goal ≡ Some goal
   pub lines : read ≡ rule_lines it.parts goal
+  pub no_domains : it.parts.domains ≡ []
 
 pub whole_of : (it : Gathered) (read : List RuleLine) → IsAt Finished it → read ≡
-    lines_to Finished it → IsWhole it read
-whole_of it read at e = record {
+    lines_to Finished it → it.parts.domains ≡ [] → IsWhole it read
+whole_of it read at e none = record {
+  no_domains = none;
   goal = at.0;
   is = at.1;
   lines =
@@ -166,22 +178,22 @@ nowhere [] e = cc
 nowhere (x ∷ xs) e = cc
 
 on_from : (place : Place) (it : Gathered) (taken more : List RuleLine) → IsAt place it → taken ≡
-    lines_to place it → after_all after (Some place) more ≡ Some Finished →
-    Gathers (taken ++ more)
-on_from place it taken [] at e a =
+    lines_to place it → it.parts.domains ≡ [] →
+    after_all after (Some place) more ≡ Some Finished → Gathers (taken ++ more)
+on_from place it taken [] at e none a =
     let there : place ≡ Finished = some-injective a in
     record {
       it = it;
       whole =
           whole_of it (taken ++ []) (subst (λ p. IsAt p it) there at)
-          (append-nil taken ∙ e ∙ ap (λ p. lines_to p it) there);
+          (append-nil taken ∙ e ∙ ap (λ p. lines_to p it) there) none;
     }
-on_from place it taken (read ∷ more) at e a =
-    by (after place read) refl (λ p g its h f b. on_from p g its more h f b)
+on_from place it taken (read ∷ more) at e none a =
+    by (after place read) refl (λ p g its h f n b. on_from p g its more h f n b)
   where
     by : (found : Option Place) → after place read ≡ found →
         ((p : Place) (g : Gathered) (its : List RuleLine) → IsAt p g → its ≡ lines_to p g →
-        after_all after (Some p) more ≡ Some Finished → Gathers (its ++ more)) →
+        g.parts.domains ≡ [] → after_all after (Some p) more ≡ Some Finished → Gathers (its ++ more)) →
         Gathers (taken ++ read ∷ more)
     by None f rest =
         let never : after_all after None more ≡ Some Finished =
@@ -192,12 +204,13 @@ on_from place it taken (read ∷ more) at e a =
         ap (λ p. after_all after p more) (sym f) ∙ a in
         subst Gathers (append_assoc taken (read ∷ []) more)
         (rest next (pushed read it) (taken ++ read ∷ []) v.at
-        (ap (λ (its : List RuleLine). its ++ read ∷ []) e ∙ sym v.lines) on)
+        (ap (λ (its : List RuleLine). its ++ read ∷ []) e ∙ sym v.lines)
+        (keeps_domains read it ∙ none) on)
 
 -- lines that lead to the end are those of a rule set and an equation
 pub gathers : (read : List RuleLine) → after_all after (Some AtHeader) read ≡ Some Finished →
     Gathers read
-gathers read a = on_from AtHeader blank [] read refl refl a
+gathers read a = on_from AtHeader blank [] read refl refl refl a
 
 pub whole_texts : (texts : List (List ℕ)) → LeadsTo rule_order texts Finished →
     (parts : RuleParts) × ((goal : Equation) × IsRuleText (ended texts) parts goal)
@@ -210,6 +223,7 @@ whole_texts texts h =
         record {
           in_range = ap (list_all lines.in_range) (sym w.lines) ∙ h.in_range;
           is = ap ended (sym h.are ∙ ap (map lines.text) w.lines);
+          no_domains = w.no_domains;
         },
       ),
     )
@@ -292,8 +306,15 @@ of_rules it (x ∷ xs) =
     of_rules (pushed (line.Rule x) it) xs
     ∙ ap (with_rules it) (append_assoc it.parts.rules (x ∷ []) xs)
 
+-- without domains
+abbrev bare : RuleParts → RuleParts
+bare parts = record parts { domains = [] }
+
+bare_is : (parts : RuleParts) → parts.domains ≡ [] → bare parts ≡ parts
+bare_is parts none = λ i. record parts { domains = sym none i }
+
 abbrev made_of : RuleParts → Equation → Gathered
-made_of parts goal = record { parts = parts; goal = Some goal }
+made_of parts goal = record { parts = bare parts; goal = Some goal }
 
 of_lines : (parts : RuleParts) (goal : Equation) → gathered blank (rule_lines parts goal) ≡
     made_of parts goal
@@ -307,11 +328,11 @@ of_lines parts goal =
     (of_symbols head 0 parts.symbols)
     ∙ of_rules (with_symbols head parts.symbols) parts.rules)
 
-pub given_by_lines : (p q : RuleParts) (g h : Equation) → rule_lines p g ≡ rule_lines q h →
-    (p ≡ q) × (g ≡ h)
-given_by_lines p q g h e =
+pub given_by_lines : (p q : RuleParts) (g h : Equation) → p.domains ≡ [] → q.domains ≡ [] →
+    rule_lines p g ≡ rule_lines q h → (p ≡ q) × (g ≡ h)
+given_by_lines p q g h m n e =
     let same : made_of p g ≡ made_of q h =
     sym (of_lines p g) ∙ ap (gathered blank) e ∙ of_lines q h in (
-      ap (λ (it : Gathered). it.parts) same,
+      sym (bare_is p m) ∙ ap (λ (it : Gathered). it.parts) same ∙ bare_is q n,
       some-injective (ap (λ (it : Gathered). it.goal) same),
     )

@@ -16,7 +16,7 @@ one text p q g h a b =
     let texts : map lines.text (rule_lines p g) ≡ map lines.text (rule_lines q h) =
     order.one_list rule_order rules_in_order (map lines.text (rule_lines p g))
     (map lines.text (rule_lines q h)) (leads_to_end a) (leads_to_end b) (sym a.is ∙ b.is) in
-    given_by_lines p q g h
+    given_by_lines p q g h a.no_domains b.no_domains
     (order.same_lines rule_order rules_in_order (rule_lines p g) (rule_lines q h) a.in_range
     b.in_range texts)
 

@@ -16,7 +16,7 @@ use Rattle.rx_rulefile.specs.declared.place.Place.{Place}
 use Rattle.rx_rulefile.specs.declared.place.Place.TheVariants.{AtHeader, Finished}
 use Rattle.rx_rulefile.specs.declared.rule_line.RuleLine.{RuleLine}
 use Rattle.rx_rulefile.specs.declared.rule_line.RuleLine.TheVariants as line
-use Rattle.rx_rulefile.proofs.GatheringLaws.{moves}
+use Rattle.rx_rulefile.proofs.GatheringLaws.{keeps_domains, moves}
 use Rattle.rx_rulefile.proofs.RuleOrder.{rules_in_order}
 
 -- so many lines of the text were taken, which lead to the place; this was gathered from them, and
@@ -29,6 +29,7 @@ pub record ReadSoFar (text left : List ℕ) (taken : ℕ) (place : Place) (it : 
   pub lines : leads.lines ≡ lines_to place it
   pub at : IsAt place it
   pub room : taken + length left ≤ length text
+  pub no_domains : it.parts.domains ≡ []
 
 pub none_so_far : (text : List ℕ) → ReadSoFar text text 0 AtHeader blank
 none_so_far text = record {
@@ -38,6 +39,7 @@ none_so_far text = record {
   leads = record { lines = []; in_range = refl; are = refl; arrives = refl };
   lines = refl;
   at = refl;
+  no_domains = refl;
   room = omega arith;
 }
 
@@ -57,6 +59,7 @@ one_more {text} {left} {taken} {place} {it} bytes rest read next h cut r =
       leads = t.0;
       lines = t.1 ∙ ap (λ (its : List RuleLine). its ++ read ∷ []) h.lines ∙ sym v.lines;
       at = v.at;
+      no_domains = keeps_domains read it ∙ h.no_domains;
       room =
           omega (arith, h.room, ap length cut, length-append bytes (10 ∷ rest));
     }
@@ -99,6 +102,7 @@ whole_text {text} {taken} {it} goal h e =
     set_lines it.parts ++ (goal_lines goal ++ line.End ∷ [])) e in
     record {
       in_range = ap (list_all lines.in_range) (sym same) ∙ h.leads.in_range;
+      no_domains = h.no_domains;
       is =
           h.joined ∙ append-nil (ended h.texts) ∙
           ap ended (sym h.leads.are ∙ ap (map lines.text) same);

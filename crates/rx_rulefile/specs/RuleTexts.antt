@@ -29,10 +29,11 @@ set_lines parts =
 abbrev pub rule_lines : RuleParts → Equation → List RuleLine
 rule_lines parts goal = set_lines parts ++ (line.Equation goal ∷ line.End ∷ [])
 
--- the text is that of the rule set and the equation
+-- the text is that of the rule set, whose symbols have no domains, and the equation
 pub record IsRuleText (text : List ℕ) (parts : RuleParts) (goal : Equation) : Type 0 where
   pub in_range : list_all lines.in_range (rule_lines parts goal) ≡ true
   pub is : text ≡ ended (map lines.text (rule_lines parts goal))
+  pub no_domains : parts.domains ≡ []
 
 -- ---- what isn't well made
 

@@ -96,11 +96,13 @@ fn push_goal(goal: &Equation, out: &mut Vec<u8>) -> Result<(), NoMemory>
 }
 
 /// The text of the rule set and the equation: the one that is read again as these, where the
-/// equation fits the symbols. All in them must have a text: at most 4,096 symbols, each with at most
-/// 128 arguments, and no frame the entry of a function or the head of a loop; variables below
-/// 1,000,000; and fewer than 2^32 rows in a rule or in the equation. Fails only when out of memory.
+/// equation fits the symbols. All in them must have a text: no symbol has a domain; at most 4,096
+/// symbols, each with at most 128 arguments, and no frame the entry of a function or the head of a
+/// loop; variables below 1,000,000; and fewer than 2^32 rows in a rule or in the equation. Fails
+/// only when out of memory.
 pub fn write_rules(alloc: Global, rules: &RuleSet, goal: &Equation) -> Result<Items<u8>, NoMemory>
-    requires { list_all lines.in_range (rule_lines rules.now goal.now) ≡ true }
+    requires in_range { list_all lines.in_range (rule_lines rules.now goal.now) ≡ true }
+    requires no_domains { rules.now.domains ≡ [] }
     ensures { IfOk result (λ text. IsRuleText text rules.now goal.now) }
 {
     let mut out = Vec::new(alloc);

@@ -2,6 +2,7 @@
 pub mod AssignedLaws
 pub mod BoundLaws
 pub mod Changing
+pub mod Collecting
 pub mod CoveredLaws
 pub mod Differing
 pub mod Equations

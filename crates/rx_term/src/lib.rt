@@ -5,6 +5,7 @@
 
 mod arguments;
 mod bounds;
+mod inside;
 mod laws;
 mod left_side;
 mod rule;
@@ -12,6 +13,7 @@ mod rule_set;
 mod term;
 
 pub use arguments::differences;
+pub use inside::inside_of;
 pub use laws::{
     Inside, arguments_are_assignments, arguments_are_numbered_in_order,
     bounds_are_the_least_above_all, covered_sets_step, covered_sets_step_inside,

@@ -11,7 +11,12 @@ returns c =
     sorted_joined c.args.code.now in
     record {
       forms = (
-        (λ i. record { symbols = c.in_ok-symbols_of.ensures i; rules = rules i; fails = 1 }),
+        (λ i. record {
+          symbols = c.in_ok-symbols_of.ensures i;
+          domains = c.new.ensures i;
+          rules = rules i;
+          fails = 1;
+        }),
         sorted.1,
       );
     }

@@ -1,4 +1,6 @@
-use Rattle.std.proofs.Common.{◌≡◌, false, true}
+use Rattle.std.proofs.Common.{◌≡◌, ap, false, true}
+use Rattle.rx_term.specs.Domains.{are_domains}
+use Rattle.rx_term.specs.declared.rule_set.RuleParts.{RuleParts}
 use Rattle.rx_translate.proofs.Translated.{compiled_is, parts_made}
 use Rattle.rx_translate.proofs.translation.translated.Goals as goal
 
@@ -13,5 +15,7 @@ unreachable-requires c =
     compiled c.requires.first_there c.requires.second_there c.in_ok-parts.parts
     c.in_ok-parts.ensures.forms
     c.requires.scoped in
-    let none : false ≡ true = c.in_default.ensures.exact.1 made in
+    let domains = ap (λ (p : RuleParts). are_domains p.symbols p.domains)
+    c.in_ok-parts.ensures.forms.0 in
+    let none : false ≡ true = c.in_default.ensures.exact.1 (made, domains) in
     cc
