@@ -2,7 +2,7 @@
 use Rattle.std.proofs.Common.{◌≡◌, ◌∙◌, ap, sym, refl, cond, ◌↔◌, ℕ, ◌+◌, ◌==◌, Bool, true, false, not, ◌||◌, Option, Some, None, Result, Ok, Err, IfOk, List, [], ◌∷◌, length, Contains, ℤ, pos, negsuc, ◌≤ℤ◌, int_lt, arith}
 use Rattle.std.proofs.lemmas.Int.{ints}
 use Rattle.std.proofs.lemmas.List.Elements.{All-cons, All-contains, All-nil}
-use Rattle.std.proofs.lemmas.Bool.{or_left}
+use Rattle.std.proofs.lemmas.Bool.{eqb-true, or_left}
 use Rattle.rx_poly.proofs.DivisionLaws.{constant_value}
 use Rattle.rx_poly.proofs.TermLaws.{zero_is}
 use Rattle.rx_poly.specs.Reading.{constant_of}
@@ -112,6 +112,53 @@ module _ (a : ℕ → ℤ) (given : List Row) (holds : AllHold a given) where
       (shown_row row rows cert i (in_order (i + 1) given rows certs)
       (in_order_holds rows (i + 1) certs))
       (is_plain_row given row) refl e
+
+-- ---- numbers of rows
+
+module _ (given : List Row) where
+  renumbered_if : (b : Bool) (further other further' other' : Option ConditionsAnswer) →
+      (further ≡ Some Shown → further' ≡ Some Shown) → (other ≡ Some Shown → other' ≡ Some Shown) →
+      cond b further other ≡ Some Shown → cond b further' other' ≡ Some Shown
+  renumbered_if true further other further' other' f g e = f e
+  renumbered_if false further other further' other' f g e = g e
+
+  renumbered_or : (found : Said) (i j : ℕ) (later later' : Option ConditionsAnswer) →
+      (later ≡ Some Shown → later' ≡ Some Shown) → shown_or found i later ≡ Some Shown →
+      shown_or found j later' ≡ Some Shown
+  renumbered_or Beyond i j later later' f e = cc
+  renumbered_or Yes i j later later' f e = f e
+  renumbered_or No i j later later' f e = cc
+
+  -- rows that are shown are shown whatever the number of the first
+  pub renumbered : (rows : List Row) (i j : ℕ) (certs : List Cert) → in_order i given rows certs ≡
+      Some Shown → in_order j given rows certs ≡ Some Shown
+  renumbered [] i j certs e = refl
+  renumbered (row ∷ rows) i j [] e =
+      renumbered_if (is_plain_row given row) (in_order (i + 1) given rows []) (Some WrongCount)
+      (in_order (j + 1) given rows []) (Some WrongCount) (renumbered rows (i + 1) (j + 1) [])
+      (λ wrong. wrong) e
+  renumbered (row ∷ rows) i j (cert ∷ certs) e =
+      renumbered_if (is_plain_row given row) (in_order (i + 1) given rows (cert ∷ certs))
+      (shown_or (row_finding given row cert) i (in_order (i + 1) given rows certs))
+      (in_order (j + 1) given rows (cert ∷ certs))
+      (shown_or (row_finding given row cert) j (in_order (j + 1) given rows certs))
+      (renumbered rows (i + 1) (j + 1) (cert ∷ certs))
+      (renumbered_or (row_finding given row cert) i j (in_order (i + 1) given rows certs)
+      (in_order (j + 1) given rows certs) (renumbered rows (i + 1) (j + 1) certs)) e
+
+-- ---- condition lists
+
+-- as many certificates as are asked for, and each row is shown
+pub conditions_parts : (given rows : List Row) (certs : List Cert) →
+    conditions given (Some rows) certs ≡ Some Shown →
+    (length certs ≡ asked_for given rows) × (in_order 0 given rows certs ≡ Some Shown)
+conditions_parts given rows certs e = by (length certs == asked_for given rows) refl e
+  where
+    by : (b : Bool) → (length certs == asked_for given rows) ≡ b →
+        cond b (in_order 0 given rows certs) (Some WrongCount) ≡ Some Shown →
+        (length certs ≡ asked_for given rows) × (in_order 0 given rows certs ≡ Some Shown)
+    by true same h = (eqb-true (length certs) (asked_for given rows) same, h)
+    by false same h = cc
 
 -- as many certificates as are asked for, and each row shown: the rows hold wherever the given ones
 -- do

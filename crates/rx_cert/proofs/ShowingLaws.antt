@@ -112,10 +112,12 @@ module _ (given : List Row) where
       by further false plain =
           let asked = asked_shown row rows plain in absurd (omega (arith, asked, e))
 
-  pub none_met : (rows : List Row) (certs : List Cert) → length certs ≡ asked_for given rows →
-      length certs ≡ 0 → conditions given (Some rows) certs ≡ Some Shown
-  none_met rows [] e none = met rows [] (none_asked rows 0 (sym e)) e
-  none_met rows (cert ∷ certs) e none = absurd (omega arith)
+  -- so there is nothing to look at
+  pub none_left : (rows : List Row) (i : ℕ) (certs : List Cert) →
+      length certs ≡ asked_for given rows → length certs ≡ 0 → in_order i given rows certs ≡
+      Some Shown
+  none_left rows i [] e none = none_asked rows i (sym e)
+  none_left rows i (cert ∷ certs) e none = absurd (omega arith)
 
   -- ---- rows that are shown
 

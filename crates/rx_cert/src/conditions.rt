@@ -1,5 +1,5 @@
 //! Lists of rows that are to follow from others, with certificates for those that aren't plain.
-ghost use Rattle.std.specs.Prelude.{◌≡◌, ◌++◌, ℕ, ℤ, Some, None, IsTrue, IfOk, IfErr, OnOk};
+ghost use Rattle.std.specs.Prelude.{◌≡◌, ◌<◌, ◌+◌, ◌^◌, ◌++◌, ℕ, ℤ, Some, None, IsTrue, IfOk, IfErr, OnOk, length};
 ghost use Rattle.rx_cert.specs.Conditions.{asked_for, conditions, in_order, is_evident, is_plain_row};
 ghost use Rattle.rx_cert.specs.Examination.{row_finding};
 ghost use Rattle.rx_row.specs.Holds.{AllHold, RowHolds};
@@ -17,7 +17,7 @@ pub enum ConditionsAnswer {
     Shown,
     /// There are more or fewer certificates than rows that aren't plain.
     WrongCount,
-    /// The row at that place, counted from 0 over all rows, isn't shown by its certificate.
+    /// The row of that number, counted from 0 over all rows, isn't shown by its certificate.
     NotShown(usize),
 }
 
@@ -45,24 +45,34 @@ pub fn is_plain(rows: &Constraint, row: &Row) -> bool
     rows.contains(row) || says_evident(row)
 }
 
-/// How many certificates the rows ask for.
-fn count_asked(given: &Constraint, rows: &[Row]) -> usize
+/// How many certificates the rows ask for: one for each that isn't plain. Takes no memory.
+pub fn count_asked(given: &Constraint, rows: &[Row]) -> usize
     ensures { result ≡ asked_for given.now rows.now }
 {
     rows.iter().filter(|row| !is_plain(given, row)).count()
 }
 
-/// The rows in order, each that isn't plain with the next certificate.
-fn examine_in_order(
+/// Whether the rows follow from the given ones, the first row having that number: each that isn't
+/// plain takes the next certificate, and there are as many of these as are asked for
+/// (`count_asked`). The given rows are copied only where there is a certificate to examine. Large
+/// exactly where a certificate, or the negation of its row, comes to a polynomial that passes the
+/// limits before another answer is found.
+pub fn check_in_order(
     alloc: Global,
+    first: usize,
     given: &Constraint,
     rows: &[Row],
     certs: &[Cert],
 ) -> Result<ConditionsAnswer, PolyEnd>
-    ensures answer { IfOk result (λ c. in_order 0 given.now rows.now certs.now ≡ Some c) }
-    ensures large { IfErr result (λ e. e ≡ PolyEnd.Large → in_order 0 given.now rows.now certs.now ≡
-        None) }
+    requires count { length certs.now ≡ asked_for given.now rows.now }
+    requires room { first + length rows.now < 2 ^ 64 }
+    ensures answer { IfOk result (λ c. in_order first given.now rows.now certs.now ≡ Some c) }
+    ensures large { IfErr result (λ e. e ≡ PolyEnd.Large →
+        in_order first given.now rows.now certs.now ≡ None) }
 {
+    if certs.is_empty() {
+        return Ok(ConditionsAnswer::Shown);
+    }
     let mut lent = copy_rows(alloc, given.rows())?;
     let mut left = certs;
     for (at, row) in rows.iter().enumerate() {
@@ -73,7 +83,7 @@ fn examine_in_order(
             return Ok(ConditionsAnswer::WrongCount);
         };
         if !examine_negation(alloc, &mut lent, row, cert)? {
-            return Ok(ConditionsAnswer::NotShown(at));
+            return Ok(ConditionsAnswer::NotShown(first + at));
         }
         left = more;
     }
@@ -100,8 +110,5 @@ pub fn check_conditions(
     if certs.len() != count_asked(given, rows) {
         return Ok(ConditionsAnswer::WrongCount);
     }
-    if certs.is_empty() {
-        return Ok(ConditionsAnswer::Shown);
-    }
-    examine_in_order(alloc, given, rows, certs)
+    check_in_order(alloc, 0, given, rows, certs)
 }

@@ -14,7 +14,7 @@ mod rounding;
 mod sums;
 
 pub use cert::{Cert, Parts, copied_certs};
-pub use conditions::{ConditionsAnswer, check_conditions, is_plain};
+pub use conditions::{ConditionsAnswer, check_conditions, check_in_order, count_asked, is_plain};
 pub use differences::{row_above, row_below};
 pub use division_facts::{Division, divide, facts_at_least_zero, facts_below_zero};
 pub use elimination::{are_opposites, polynomial_at_zero, solve};
