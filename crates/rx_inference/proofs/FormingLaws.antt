@@ -29,7 +29,7 @@ module _ (parts : RuleParts) (hypotheses : List Rule) where
   so_bare goal (step.Delete (delete.Equal certs)) = refl
   so_bare goal step.EqDelete = refl
   so_bare goal (step.Generalise left right rows subst certs) = refl
-  so_bare goal (step.Postulate left right rows) = refl
+  so_bare goal (step.Postulate left right rows certs) = refl
   so_bare goal (step.Split row) = refl
   so_bare goal (step.Decompose certs) = refl
   so_bare goal (step.Results left right certs) = refl
@@ -111,7 +111,7 @@ module _ (parts : RuleParts) (hypotheses : List Rule) (goal : Equation) where
   never_on (step.Generalise left right rows ws certs) =
       tested _ _ (kept (generalised_by goal (record { left = left; right = right; rows = rows })
       ws))
-  never_on (step.Postulate left right rows) =
+  never_on (step.Postulate left right rows certs) =
       tested (is_equation parts (record { left = left; right = right; rows = rows })) _ (found _)
   never_on (step.Split row) = tested _ _ (kept (split_by goal row))
   never_on (step.Decompose certs) =

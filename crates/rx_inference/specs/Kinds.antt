@@ -117,7 +117,7 @@ formed_on parts goal hypotheses (step.Delete by) = deleted goal by
 formed_on parts goal hypotheses step.EqDelete = different goal
 formed_on parts goal hypotheses (step.Generalise left right rows subst certs) =
     generalised parts goal (record { left = left; right = right; rows = rows }) subst
-formed_on parts goal hypotheses (step.Postulate left right rows) =
+formed_on parts goal hypotheses (step.Postulate left right rows certs) =
     postulated parts goal (record { left = left; right = right; rows = rows })
 formed_on parts goal hypotheses (step.Split r) = split goal r
 formed_on parts goal hypotheses (step.Decompose certs) = decomposed goal

@@ -89,7 +89,12 @@ fn form_on(
             subst,
             ..
         } => generalise_to(alloc, rules, goal, left, right, rows, subst.as_slice()),
-        Step::Postulate { left, right, rows } => {
+        Step::Postulate {
+            left,
+            right,
+            rows,
+            ..
+        } => {
             let new = equation(alloc, left, right, rows)?;
             postulate(alloc, rules, goal, new)
         }

@@ -88,6 +88,8 @@ pub enum Step {
         right: Term,
         /// Its rows.
         rows: Constraint,
+        /// None, since nothing is asked.
+        certs: Items<Cert>,
     },
     /// A row holds, in one goal, or its negation does, in the other.
     Split {
@@ -128,13 +130,15 @@ fn copied_postulate(
     left: &Term,
     right: &Term,
     rows: &Constraint,
+    certs: &[Cert],
 ) -> Result<Step, NoMemory>
-    ensures { IfOk result (λ step. step ≡ steps.Postulate left.now right.now rows.now) }
+    ensures { IfOk result (λ step. step ≡ steps.Postulate left.now right.now rows.now certs.now) }
 {
     Ok(Step::Postulate {
         left: left.try_clone(alloc)?,
         right: right.try_clone(alloc)?,
         rows: rows.try_clone(alloc)?,
+        certs: copied_certs(alloc, certs)?,
     })
 }
 
@@ -182,6 +186,7 @@ impl Step {
             Step::Delete(Delete::Absurd(cert)) => std::slice::from_ref(cert),
             Step::Delete(Delete::Equal(certs)) => certs.as_slice(),
             Step::Generalise { certs, .. } => certs.as_slice(),
+            Step::Postulate { certs, .. } => certs.as_slice(),
             Step::Decompose { certs } => certs.as_slice(),
             Step::Results { certs, .. } => certs.as_slice(),
             _ => &[],
@@ -230,7 +235,12 @@ impl Step {
                 subst.as_slice(),
                 certs.as_slice(),
             ),
-            Step::Postulate { left, right, rows } => copied_postulate(alloc, left, right, rows),
+            Step::Postulate {
+                left,
+                right,
+                rows,
+                certs,
+            } => copied_postulate(alloc, left, right, rows, certs.as_slice()),
             Step::Split { row } => Ok(Step::Split {
                 row: row.try_clone(alloc)?,
             }),

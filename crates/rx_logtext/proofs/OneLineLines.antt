@@ -78,7 +78,7 @@ step_one_line (step.Delete (Equal certs)) = cert_list_one_line certs
 step_one_line step.EqDelete = refl
 step_one_line (step.Generalise left right rows subst certs) =
     generalise_one_line (record { left = left; right = right; rows = rows }, (subst, certs))
-step_one_line (step.Postulate left right rows) =
+step_one_line (step.Postulate left right rows certs) =
     equation_one_line (record { left = left; right = right; rows = rows })
 step_one_line (step.Split row) = row_one_line row
 step_one_line (step.Decompose certs) = cert_list_one_line certs

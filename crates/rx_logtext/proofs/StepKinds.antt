@@ -28,7 +28,8 @@ pub record IsKind {P : Type 0} (beginning : List ℕ) (format : Format P) (make 
   where
     pub text : (parts : P) → step_text (make parts) ≡ beginning ++ format.text parts
     pub in_range : (parts : P) → is_readable_step (make parts) ≡ format.in_range parts
-    pub only : (rest : List ℕ) (x : Step) → beginning ++ rest ≡ step_text x → (parts : P) ×
+    pub only : (rest : List ℕ) (x : Step) → is_readable_step x ≡ true →
+        beginning ++ rest ≡ step_text x → (parts : P) ×
         ((x ≡ make parts) × (rest ≡ format.text parts))
 
 -- the line is read where what comes after its beginning is
@@ -40,7 +41,7 @@ kind_reads {P} {beginning} {format} {make} kind line rest e (Some parts) t = rec
   text = e ∙ ap (λ (r : List ℕ). beginning ++ r) t.text ∙ sym (kind.text parts);
 }
 kind_reads {P} {beginning} {format} {make} kind line rest e None never = λ x t.
-    let o = kind.only rest x (sym e ∙ t.text) in
+    let o = kind.only rest x t.in_range (sym e ∙ t.text) in
     never o.0 (record {
       in_range = sym (kind.in_range o.0) ∙ ap is_readable_step (sym o.1.0) ∙
           t.in_range;
@@ -61,7 +62,7 @@ only_simplify rest (step.Delete (Absurd cert)) e =
 only_simplify rest x e = absurd (let f : true ≡ false = ap (starts (codes "sim")) e in cc)
 
 pub simplify_kind : IsKind (codes "simplify ") (simplify_parts) simplify_of
-simplify_kind = record { text = λ parts. refl; in_range = λ parts. refl; only = only_simplify }
+simplify_kind = record { text = λ parts. refl; in_range = λ parts. refl; only = λ rest x readable. only_simplify rest x }
 
 -- `hyp`
 abbrev pub hyp_of : Side × (ℕ × (ℕ × (List (ℕ × Body) × List Cert))) → Step
@@ -77,7 +78,7 @@ only_hyp rest (step.Delete (Absurd cert)) e =
 only_hyp rest x e = absurd (let f : true ≡ false = ap (starts (codes "hyp")) e in cc)
 
 pub hyp_kind : IsKind (codes "hyp ") (hyp_parts) hyp_of
-hyp_kind = record { text = λ parts. refl; in_range = λ parts. refl; only = only_hyp }
+hyp_kind = record { text = λ parts. refl; in_range = λ parts. refl; only = λ rest x readable. only_hyp rest x }
 
 -- `expand`
 abbrev pub expand_of : Side × Bool → Step
@@ -91,7 +92,7 @@ only_expand rest (step.Delete (Absurd cert)) e =
 only_expand rest x e = absurd (let f : true ≡ false = ap (starts (codes "exp")) e in cc)
 
 pub expand_kind : IsKind (codes "expand ") (expand_parts) expand_of
-expand_kind = record { text = λ parts. refl; in_range = λ parts. refl; only = only_expand }
+expand_kind = record { text = λ parts. refl; in_range = λ parts. refl; only = λ rest x readable. only_expand rest x }
 
 -- `absurd`
 abbrev pub absurd_of : Cert → Step
@@ -103,7 +104,7 @@ only_absurd rest (step.Delete (Absurd cert)) e = (cert, (refl, ap (drop 7) e))
 only_absurd rest x e = absurd (let f : true ≡ false = ap (starts (codes "abs")) e in cc)
 
 pub absurd_kind : IsKind (codes "absurd ") (certificates) absurd_of
-absurd_kind = record { text = λ parts. refl; in_range = λ parts. refl; only = only_absurd }
+absurd_kind = record { text = λ parts. refl; in_range = λ parts. refl; only = λ rest x readable. only_absurd rest x }
 
 -- `equal`
 abbrev pub equal_of : List Cert → Step
@@ -117,7 +118,7 @@ only_equal rest (step.Delete (Absurd cert)) e =
 only_equal rest x e = absurd (let f : true ≡ false = ap (starts (codes "equ")) e in cc)
 
 pub equal_kind : IsKind (codes "equal ") (certificate_lists) equal_of
-equal_kind = record { text = λ parts. refl; in_range = λ parts. refl; only = only_equal }
+equal_kind = record { text = λ parts. refl; in_range = λ parts. refl; only = λ rest x readable. only_equal rest x }
 
 -- `generalise`
 abbrev pub generalise_of : Equation × (List (ℕ × Body) × List Cert) → Step
@@ -133,19 +134,22 @@ only_generalise rest (step.Delete (Absurd cert)) e =
 only_generalise rest x e = absurd (let f : true ≡ false = ap (starts (codes "gen")) e in cc)
 
 pub generalise_kind : IsKind (codes "generalise ") (generalise_parts) generalise_of
-generalise_kind = record { text = λ parts. refl; in_range = λ parts. refl; only = only_generalise }
+generalise_kind = record { text = λ parts. refl; in_range = λ parts. refl; only = λ rest x readable. only_generalise rest x }
 
 -- `postulate`
 abbrev pub postulate_of : Equation → Step
-postulate_of p = step.Postulate p.left p.right p.rows
+postulate_of p = step.Postulate p.left p.right p.rows []
 
-only_postulate : (rest : List ℕ) (x : Step) → codes "postulate " ++ rest ≡ step_text x →
+only_postulate : (rest : List ℕ) (x : Step) → is_readable_step x ≡ true →
+    codes "postulate " ++ rest ≡ step_text x →
     (parts : Equation) × ((x ≡ postulate_of parts) × (rest ≡ (equations).text parts))
-only_postulate rest (step.Postulate left right rows) e =
+only_postulate rest (step.Postulate left right rows []) readable e =
     (record { left = left; right = right; rows = rows }, (refl, ap (drop 10) e))
-only_postulate rest (step.Delete (Absurd cert)) e =
+only_postulate rest (step.Postulate left right rows (cert ∷ certs)) readable e = absurd cc
+only_postulate rest (step.Delete (Absurd cert)) readable e =
     absurd (let f : true ≡ false = ap (starts (codes "pos")) e in cc)
-only_postulate rest x e = absurd (let f : true ≡ false = ap (starts (codes "pos")) e in cc)
+only_postulate rest x readable e =
+    absurd (let f : true ≡ false = ap (starts (codes "pos")) e in cc)
 
 pub postulate_kind : IsKind (codes "postulate ") (equations) postulate_of
 postulate_kind = record { text = λ parts. refl; in_range = λ parts. refl; only = only_postulate }
@@ -162,7 +166,7 @@ only_split rest (step.Delete (Absurd cert)) e =
 only_split rest x e = absurd (let f : true ≡ false = ap (starts (codes "spl")) e in cc)
 
 pub split_kind : IsKind (codes "split ") (word row_format) split_of
-split_kind = record { text = λ parts. refl; in_range = λ parts. refl; only = only_split }
+split_kind = record { text = λ parts. refl; in_range = λ parts. refl; only = λ rest x readable. only_split rest x }
 
 -- `decompose`
 abbrev pub decompose_of : List Cert → Step
@@ -176,7 +180,7 @@ only_decompose rest (step.Delete (Absurd cert)) e =
 only_decompose rest x e = absurd (let f : true ≡ false = ap (starts (codes "dec")) e in cc)
 
 pub decompose_kind : IsKind (codes "decompose ") (certificate_lists) decompose_of
-decompose_kind = record { text = λ parts. refl; in_range = λ parts. refl; only = only_decompose }
+decompose_kind = record { text = λ parts. refl; in_range = λ parts. refl; only = λ rest x readable. only_decompose rest x }
 
 -- `results`
 abbrev pub results_of : ℕ × (ℕ × List Cert) → Step
@@ -191,4 +195,4 @@ only_results rest (step.Delete (Absurd cert)) e =
 only_results rest x e = absurd (let f : true ≡ false = ap (starts (codes "res")) e in cc)
 
 pub results_kind : IsKind (codes "results ") (results_parts) results_of
-results_kind = record { text = λ parts. refl; in_range = λ parts. refl; only = only_results }
+results_kind = record { text = λ parts. refl; in_range = λ parts. refl; only = λ rest x readable. only_results rest x }

@@ -94,7 +94,7 @@ kind_once : {P : Type 0} {beginning : List ℕ} {text : P → List ℕ} {in_rang
     IsUnambiguous (words text in_range) → (bytes : List ℕ) (parts : P) (y : Step) →
     IsText steps bytes (make parts) → IsText steps bytes y → make parts ≡ y
 kind_once {P} {beginning} {text} {in_range} {make} kind once bytes parts y t u =
-    let o = kind.only (text parts) y (sym (kind.text parts) ∙ sym t.text ∙ u.text) in
+    let o = kind.only (text parts) y u.in_range (sym (kind.text parts) ∙ sym t.text ∙ u.text) in
     let r : in_range parts ≡ true = sym (kind.in_range parts) ∙ t.in_range in
     let s : in_range o.0 ≡ true = sym (kind.in_range o.0) ∙ ap steps.in_range (sym o.1.0) ∙
     u.in_range in
@@ -122,9 +122,11 @@ steps_one bytes step.EqDelete y t u = only_eqdelete y (sym t.text ∙ u.text)
 steps_one bytes (step.Generalise left right rows subst certs) y t u =
     kind_once generalise_kind generalise_once bytes
     (record { left = left; right = right; rows = rows }, (subst, certs)) y t u
-steps_one bytes (step.Postulate left right rows) y t u =
+steps_one bytes (step.Postulate left right rows []) y t u =
     kind_once postulate_kind equations_once bytes
     (record { left = left; right = right; rows = rows }) y t u
+steps_one bytes (step.Postulate left right rows (cert ∷ certs)) y t u =
+    absurd (let f : false ≡ true = t.in_range in cc)
 steps_one bytes (step.Split row) y t u = kind_once split_kind rows_once bytes row y t u
 steps_one bytes (step.Decompose certs) y t u =
     kind_once decompose_kind certificate_lists_once bytes certs y t u
@@ -150,7 +152,7 @@ no_frame (step.Delete (Absurd cert)) = refl
 no_frame (step.Delete (Equal certs)) = refl
 no_frame step.EqDelete = refl
 no_frame (step.Generalise left right rows subst certs) = refl
-no_frame (step.Postulate left right rows) = refl
+no_frame (step.Postulate left right rows certs) = refl
 no_frame (step.Split row) = refl
 no_frame (step.Decompose certs) = refl
 no_frame (step.Results left right certs) = refl

@@ -1,5 +1,6 @@
 -- Steps as lines of a log: what kind of step, and then its parts.
-use Rattle.std.specs.Prelude.{ℕ, ◌==◌, Bool, true, false, not, List, [], ◌∷◌, codes}
+use Rattle.std.specs.Prelude.{ℕ, ◌==◌, Bool, true, false, not, ◌&&◌, List, [], ◌∷◌, codes}
+use Rattle.rx_poly.specs.Normal.{is_empty}
 use Rattle.rx_poly.specs.declared.body.Body.{Body}
 use Rattle.rx_cert.specs.declared.cert.Cert.{Cert}
 use Rattle.rx_term.specs.declared.rule.Equation.{Equation}
@@ -70,7 +71,7 @@ step_text (step.Generalise left right rows subst certs) =
     spaced (codes "generalise"
     ∷ generalise_parts.text (record { left = left; right = right; rows = rows }, (subst, certs))
     ∷ [])
-step_text (step.Postulate left right rows) =
+step_text (step.Postulate left right rows certs) =
     spaced (codes "postulate"
     ∷ equations.text (record { left = left; right = right; rows = rows }) ∷ [])
 step_text (step.Split row) = spaced (codes "split" ∷ row_format.text row ∷ [])
@@ -79,7 +80,7 @@ step_text (step.Decompose certs) =
 step_text (step.Results left right certs) =
     spaced (codes "results" ∷ results_parts.text (left, (right, certs)) ∷ [])
 
--- all in it has a text
+-- all in it has a text; a postulate has no certificates
 abbrev pub is_readable_step : Step → Bool
 is_readable_step (step.Simplify side rule certs) = simplify_parts.in_range (side, (rule, certs))
 is_readable_step (step.Hyp side place hyp subst certs) =
@@ -90,8 +91,8 @@ is_readable_step (step.Delete (Equal certs)) = certificate_lists.in_range certs
 is_readable_step step.EqDelete = true
 is_readable_step (step.Generalise left right rows subst certs) =
     generalise_parts.in_range (record { left = left; right = right; rows = rows }, (subst, certs))
-is_readable_step (step.Postulate left right rows) =
-    equations.in_range (record { left = left; right = right; rows = rows })
+is_readable_step (step.Postulate left right rows certs) =
+    is_empty certs && equations.in_range (record { left = left; right = right; rows = rows })
 is_readable_step (step.Split row) = row_format.in_range row
 is_readable_step (step.Decompose certs) = certificate_lists.in_range certs
 is_readable_step (step.Results left right certs) =

@@ -96,7 +96,12 @@ fn read_postulate(alloc: Global, line: &[u8], at: usize) -> Result<Option<Step>,
     ensures { IfOk result (ReadsAll steps line.now) }
 {
     match read_rest::<Equation>(alloc, line, at)? {
-        Some(Equation { left, right, rows }) => Ok(Some(Step::Postulate { left, right, rows })),
+        Some(Equation { left, right, rows }) => Ok(Some(Step::Postulate {
+            left,
+            right,
+            rows,
+            certs: Items::new(alloc),
+        })),
         None => Ok(None),
     }
 }

@@ -91,7 +91,12 @@ fn step_has_text(step: &Step) -> bool
             equation_has_text(left, right, rows.rows())
                 && instance_has_text(subst.as_slice(), certs.as_slice())
         }
-        Step::Postulate { left, right, rows } => equation_has_text(left, right, rows.rows()),
+        Step::Postulate {
+            left,
+            right,
+            rows,
+            certs,
+        } => certs.is_empty() && equation_has_text(left, right, rows.rows()),
         Step::Split { row } => row_has_text(row),
         Step::Decompose { certs } => certs_have_text(certs.as_slice()),
         Step::Results { left, right, certs } => {

@@ -144,7 +144,7 @@ fn push_generalise(
     push_instance(subst, certs, out)
 }
 
-/// Another goal is added.
+/// Another goal is added, by a step without certificates.
 fn push_postulate(
     left: &Term,
     right: &Term,
@@ -152,7 +152,7 @@ fn push_postulate(
     out: &mut Vec<u8>,
 ) -> Result<(), NoMemory>
     ensures { OnOk result (out.new.items ≡ out.old.items
-        ++ step_text (step.Postulate left.now right.now rows.now)) }
+        ++ step_text (step.Postulate left.now right.now rows.now [])) }
 {
     push_word(out, b"postulate ")?;
     push_equation(left, right, rows.rows(), out)
@@ -213,7 +213,9 @@ pub(crate) fn push_step(step: &Step, out: &mut Vec<u8>) -> Result<(), NoMemory>
             subst,
             certs,
         } => push_generalise(left, right, rows, subst, certs, out),
-        Step::Postulate { left, right, rows } => push_postulate(left, right, rows, out),
+        Step::Postulate {
+            left, right, rows, ..
+        } => push_postulate(left, right, rows, out),
         Step::Split { row } => push_split(row, out),
         Step::Decompose { certs } => push_decompose(certs, out),
         Step::Results { left, right, certs } => push_results(*left, *right, certs, out),

@@ -19,7 +19,7 @@ module _ (parts : RuleParts) (hypotheses : List Rule) where
   as_move_on goal (step.Delete (delete.Equal certs)) = refl
   as_move_on goal step.EqDelete = refl
   as_move_on goal (step.Generalise left right rows subst certs) = refl
-  as_move_on goal (step.Postulate left right rows) = refl
+  as_move_on goal (step.Postulate left right rows certs) = refl
   as_move_on goal (step.Split row) = refl
   as_move_on goal (step.Decompose certs) = refl
   as_move_on goal (step.Results left right certs) = refl

@@ -33,7 +33,7 @@ move_of (step.Delete (delete.Equal certs)) = Equal
 move_of step.EqDelete = EqDelete
 move_of (step.Generalise left right rows subst certs) =
     Generalise (record { left = left; right = right; rows = rows }) subst
-move_of (step.Postulate left right rows) =
+move_of (step.Postulate left right rows certs) =
     Postulate (record { left = left; right = right; rows = rows })
 move_of (step.Split row) = Split row
 move_of (step.Decompose certs) = Decompose
@@ -49,7 +49,7 @@ step_of Absurd = step.Delete (delete.Absurd (Sum []))
 step_of Equal = step.Delete (delete.Equal [])
 step_of EqDelete = step.EqDelete
 step_of (Generalise goal subst) = step.Generalise goal.left goal.right goal.rows subst []
-step_of (Postulate goal) = step.Postulate goal.left goal.right goal.rows
+step_of (Postulate goal) = step.Postulate goal.left goal.right goal.rows []
 step_of (Split row) = step.Split row
 step_of Decompose = step.Decompose []
 step_of (Results left right) = step.Results left right []

@@ -210,9 +210,9 @@ module _ (parts : RuleParts) (hypotheses : List Rule) (goal : Equation) (f : For
       (one_shape new.left goal.left shapes.0) (one_shape new.right goal.right shapes.1)
       (asked_follow _ _ certs is shown))
 
-  postulated_makes : (new : Equation) → formed_on parts goal hypotheses
-      (step.Postulate new.left new.right new.rows) ≡ Ok f → MakesIt f
-  postulated_makes new e =
+  postulated_makes : (new : Equation) (certs : List Cert) → formed_on parts goal hypotheses
+      (step.Postulate new.left new.right new.rows certs) ≡ Ok f → MakesIt f
+  postulated_makes new certs e =
       let (test, rest) = provided_back (is_equation parts new) _ f e in
       let is : postulated_by goal new ≡ f = cc in
       subst MakesIt is (Postulated new (equation_fits parts new test))
@@ -273,8 +273,8 @@ module _ (parts : RuleParts) (hypotheses : List Rule) (goal : Equation) (f : For
   formed_makes step.EqDelete e shown = different_makes e
   formed_makes (step.Generalise left right rows ws certs) e shown =
       generalised_makes (record { left = left; right = right; rows = rows }) ws certs e shown
-  formed_makes (step.Postulate left right rows) e shown =
-      postulated_makes (record { left = left; right = right; rows = rows }) e
+  formed_makes (step.Postulate left right rows certs) e shown =
+      postulated_makes (record { left = left; right = right; rows = rows }) certs e
   formed_makes (step.Split row) e shown = split_makes row e
   formed_makes (step.Decompose certs) e shown = decomposed_makes certs e shown
   formed_makes (step.Results left right certs) e shown = results_make left right certs e shown

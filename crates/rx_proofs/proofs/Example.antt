@@ -176,7 +176,7 @@ all_pairs =
 
 -- ---- the run
 
-postulates : formed_on example alike [] (Postulate (Call f []) (Call g []) []) ≡
+postulates : formed_on example alike [] (Postulate (Call f []) (Call g []) [] []) ≡
     Ok (asking_nothing (alike ∷ alike ∷ []) [])
 postulates = rw (f_fits, g_fits, bound-Call f [], bound-Call g []) refl
 
@@ -227,8 +227,8 @@ hypothesis_used =
 example_run : Run example (finished (hypothesis ∷ [])) (start alike)
 example_run =
     OneMore (start alike) (record { goals = alike ∷ alike ∷ []; hypotheses = [] })
-    (Postulate (Call f []) (Call g []) [])
-    (shown_taken example (start alike) (Postulate (Call f []) (Call g []) [])
+    (Postulate (Call f []) (Call g []) [] [])
+    (shown_taken example (start alike) (Postulate (Call f []) (Call g []) [] [])
     (asking_nothing (alike ∷ alike ∷ []) []) postulates refl)
     (OneMore (record { goals = alike ∷ alike ∷ []; hypotheses = [] })
     (record { goals = equal (Fail 1) (Call g []) ∷ alike ∷ []; hypotheses = hypothesis ∷ [] })

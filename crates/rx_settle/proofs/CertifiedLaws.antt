@@ -32,7 +32,7 @@ certified_move (step.Delete (delete.Absurd cert)) certs = refl
 certified_move (step.Delete (delete.Equal old)) certs = refl
 certified_move step.EqDelete certs = refl
 certified_move (step.Generalise left right rows subst old) certs = refl
-certified_move (step.Postulate left right rows) certs = refl
+certified_move (step.Postulate left right rows old) certs = refl
 certified_move (step.Split row) certs = refl
 certified_move (step.Decompose old) certs = refl
 certified_move (step.Results left right old) certs = refl
@@ -62,8 +62,7 @@ module _ (parts : RuleParts) (hypotheses : List Rule) (goal : Equation) (old new
   shown_on (step.Delete (delete.Equal before)) rows is shows = shows
   shown_on step.EqDelete rows is shows = none_shows old new f (tested _ _ (kept _ refl) f is)
   shown_on (step.Generalise left right more subst before) rows is shows = shows
-  shown_on (step.Postulate left right more) rows is shows =
-      none_shows old new f (tested _ _ (found _ refl) f is)
+  shown_on (step.Postulate left right more before) rows is shows = shows
   shown_on (step.Split row) rows is shows = none_shows old new f (tested _ _ (kept _ refl) f is)
   shown_on (step.Decompose before) rows is shows = shows
   shown_on (step.Results left right before) rows is shows = shows
@@ -91,7 +90,7 @@ certified_deep (step.Delete (delete.Absurd cert)) certs rows deep = cc
 certified_deep (step.Delete (delete.Equal before)) certs rows deep = deep
 certified_deep step.EqDelete certs rows deep = All-nil IsDeep
 certified_deep (step.Generalise left right more subst before) certs rows deep = deep
-certified_deep (step.Postulate left right more) certs rows deep = All-nil IsDeep
+certified_deep (step.Postulate left right more before) certs rows deep = deep
 certified_deep (step.Split row) certs rows deep = All-nil IsDeep
 certified_deep (step.Decompose before) certs rows deep = deep
 certified_deep (step.Results left right before) certs rows deep = deep

@@ -239,7 +239,7 @@ module _ (parts : RuleParts) (goal : Equation) (goals : List Equation) (hypothes
   formed_more (step.Delete by) f e = e
   formed_more step.EqDelete f e = e
   formed_more (step.Generalise left right rows ws certs) f e = e
-  formed_more (step.Postulate left right rows) f e = e
+  formed_more (step.Postulate left right rows certs) f e = e
   formed_more (step.Split row) f e = e
   formed_more (step.Decompose certs) f e = e
   formed_more (step.Results left right certs) f e = e

@@ -14,7 +14,7 @@ asks_rows (step.Delete (delete.Absurd cert)) = false
 asks_rows (step.Delete (delete.Equal certs)) = true
 asks_rows step.EqDelete = true
 asks_rows (step.Generalise left right rows subst certs) = true
-asks_rows (step.Postulate left right rows) = true
+asks_rows (step.Postulate left right rows certs) = true
 asks_rows (step.Split row) = true
 asks_rows (step.Decompose certs) = true
 asks_rows (step.Results left right certs) = true
@@ -30,7 +30,7 @@ certified (step.Delete (delete.Equal old)) certs = step.Delete (delete.Equal cer
 certified step.EqDelete certs = step.EqDelete
 certified (step.Generalise left right rows subst old) certs =
     step.Generalise left right rows subst certs
-certified (step.Postulate left right rows) certs = step.Postulate left right rows
+certified (step.Postulate left right rows old) certs = step.Postulate left right rows certs
 certified (step.Split row) certs = step.Split row
 certified (step.Decompose old) certs = step.Decompose certs
 certified (step.Results left right old) certs = step.Results left right certs

@@ -72,6 +72,17 @@ fn with_certificates(step: Step, certs: Items<Cert>) -> Step
             subst,
             certs: dropped(open, certs),
         },
+        Step::Postulate {
+            left,
+            right,
+            rows,
+            certs: open,
+        } => Step::Postulate {
+            left,
+            right,
+            rows,
+            certs: dropped(open, certs),
+        },
         Step::Decompose { certs: open } => Step::Decompose {
             certs: dropped(open, certs),
         },

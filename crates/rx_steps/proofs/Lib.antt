@@ -1,5 +1,5 @@
 -- Lemmas on the definitions of specs/.
-pub mod OneGroup
+pub mod GroupLaws
 pub mod PostulateLaws
 pub mod Reversed
 pub mod SettledLaws

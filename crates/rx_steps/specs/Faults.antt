@@ -1,5 +1,5 @@
 -- The ends of calls as faults of steps.
-use Rattle.std.specs.Prelude.{◌≡◌, ◌≢◌, Bool, true, false, Result, Ok, Err, List, [], ◌∷◌}
+use Rattle.std.specs.Prelude.{◌≡◌, ◌≢◌, Result, Ok, Err}
 use Rattle.rx_poly.specs.declared.poly_end.PolyEnd.{PolyEnd}
 use Rattle.rx_poly.specs.declared.poly_end.PolyEnd.TheVariants as poly_end
 use Rattle.rx_inference.specs.Judging.{Judgement, Shown, Fault, StepFault}
@@ -7,11 +7,6 @@ use Rattle.rx_inference.specs.Judging as judging
 use Rattle.rx_inference.specs.States.{State}
 use Rattle.rx_inference.specs.declared.form_end.FormEnd.{FormEnd}
 use Rattle.rx_inference.specs.declared.form_end.FormEnd.TheVariants as form_end
-use Rattle.rx_inference.specs.declared.formed_step.Asked.{Asked}
-use Rattle.rx_inference.specs.declared.formed_step.Asked.TheVariants.{Refuted, Rows}
-use Rattle.rx_inference.specs.declared.formed_step.Group.{Group}
-use Rattle.rx_inference.specs.declared.formed_step.Under.{Under}
-use Rattle.rx_inference.specs.declared.formed_step.Under.TheVariants.{Goal, New}
 use Rattle.rx_steps.specs.declared.step_end.StepEnd.{StepEnd}
 use Rattle.rx_steps.specs.declared.step_end.StepEnd.TheVariants.{NoGoal, WrongShape, NoSuchRule, NotShown, Large, NoMemory}
 
@@ -44,20 +39,3 @@ Judges (Err e) j = e ≢ NoMemory → j ≡ Fault (fault e)
 abbrev pub Applies : Result (Unit {0}) StepEnd → State → Result State StepFault → Type 0
 Applies (Ok u) new answer = answer ≡ Ok new
 Applies (Err e) new answer = e ≢ NoMemory → answer ≡ Err (fault e)
-
--- ---- what is asked today
-
--- a group under the rows of the goal
-abbrev pub is_under_goal : Under → Bool
-is_under_goal Goal = true
-is_under_goal New = false
-
--- one group at most, under the rows of the goal
-abbrev pub is_one_group : List Group → Bool
-is_one_group [] = true
-is_one_group (g ∷ []) = is_under_goal g.under
-is_one_group (g ∷ h ∷ gs) = false
-
-abbrev pub asks_goal_alone : Asked → Bool
-asks_goal_alone Refuted = true
-asks_goal_alone (Rows groups) = is_one_group groups

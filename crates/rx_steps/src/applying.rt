@@ -9,19 +9,19 @@ ghost use Rattle.rx_steps.specs.Shown.{Shows};
 use crate::judging::judge;
 use crate::state::State;
 use crate::step_end::StepEnd;
+use rx_cert::Cert;
 use rx_inference::{Delete, FormedStep, Step, form, is_equation};
 use rx_term::{Equation, RuleSet, Term};
 use std::alloc::Global;
 
 /// What the step makes of the first goal, where its certificates show what it asks.
-#[tactic(auto, using(crate::proofs::OneGroup::formed_alone))]
 fn shown(alloc: Global, state: &State, rules: &RuleSet, step: &Step) -> Result<FormedStep, StepEnd>
     ensures { Shows result rules.now state.now step.now }
 {
     let formed = form(alloc, rules, state.first(), state.hypotheses(), step)?;
     match state.first() {
         Some(goal) => {
-            judge(alloc, &goal.rows, &formed.asked, step.certificates())?;
+            judge(alloc, &goal.rows, &formed, step.certificates())?;
             Ok(formed)
         }
         None => Err(StepEnd::NoGoal),
@@ -93,22 +93,27 @@ pub fn apply(alloc: Global, state: &mut State, rules: &RuleSet, step: &Step) -> 
     apply_formed(alloc, state, rules, step)
 }
 
-/// The new goal before the first one, where it is an equation.
+/// The new goal before the first one, where it is an equation and there are no certificates, since
+/// nothing is asked.
 #[tactic(auto, using(crate::proofs::PostulateLaws::no_goal))]
 fn postulate(
     alloc: Global,
     state: &mut State,
     rules: &RuleSet,
     new: Equation,
+    certs: &[Cert],
 ) -> Result<(), StepEnd>
     ensures answer { Applies result state.new
-        (applied rules.now state.old (Postulate new.left new.right new.rows)) }
+        (applied rules.now state.old (Postulate new.left new.right new.rows certs.now)) }
     ensures kept { OnErr result (state.new ≡ state.old) }
 {
     let Some(_) = state.first() else {
         return Err(StepEnd::NoGoal);
     };
     if !is_equation(rules.parts(), &new) {
+        return Err(StepEnd::WrongShape);
+    }
+    if !certs.is_empty() {
         return Err(StepEnd::WrongShape);
     }
     Ok(state.put_before(alloc, new)?)
@@ -125,8 +130,14 @@ pub fn apply_owned(
     ensures kept { OnErr result (state.new ≡ state.old) }
 {
     match step {
-        Step::Postulate { left, right, rows } => {
-            postulate(alloc, state, rules, Equation { left, right, rows })
+        Step::Postulate {
+            left,
+            right,
+            rows,
+            certs,
+        } => {
+            let new = Equation { left, right, rows };
+            postulate(alloc, state, rules, new, certs.as_slice())
         }
         other => apply(alloc, state, rules, &other),
     }

@@ -41,10 +41,15 @@ pub(crate) struct Walked {
 /// The step that poses the equation.
 fn posing(alloc: Global, lemma: &Equation) -> Result<Step, NoMemory>
     ensures { IfOk result (λ step. step ≡
-        Step.Postulate lemma.now.left lemma.now.right lemma.now.rows) }
+        Step.Postulate lemma.now.left lemma.now.right lemma.now.rows []) }
 {
     let Equation { left, right, rows } = lemma.try_clone(alloc)?;
-    Ok(Step::Postulate { left, right, rows })
+    Ok(Step::Postulate {
+        left,
+        right,
+        rows,
+        certs: Items::new(alloc),
+    })
 }
 
 /// The step that poses the lemma before the goal, where it applies.

@@ -100,7 +100,12 @@ fn postulated(alloc: Global, goal: Equation, high: bool) -> Option<Step> {
     } else {
         right
     };
-    Some(Step::Postulate { left, right, rows })
+    Some(Step::Postulate {
+        left,
+        right,
+        rows,
+        certs: Items::new(alloc),
+    })
 }
 
 fn postulate(alloc: Global, words: &str) -> Option<Step> {

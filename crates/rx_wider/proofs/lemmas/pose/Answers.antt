@@ -14,7 +14,7 @@ returns-clause-posed g c =
     (λ o takes. (
       c.try_steps.new.state,
       takes_as parts c.in_ok-state.state c.args.begun.now.state c.try_steps.new.state
-          c.as_slice.result.now (steps.Postulate lemma.left lemma.right lemma.rows ∷ [])
+          c.as_slice.result.now (steps.Postulate lemma.left lemma.right lemma.rows [] ∷ [])
           c.in_ok-state.ensures
           (c.as_slice.ensures ∙ ap (λ s. s ∷ []) c.in_ok-posing.ensures) o takes,
     ))
