@@ -7,7 +7,8 @@ use Rattle.std.proofs.lemmas.Option.{none-some, same_Some, slice_get_within}
 use Rattle.rx_cert.proofs.FindingLaws.{both_parts}
 use Rattle.rx_cert.specs.Findings.{Said, Yes, No, Beyond, and_also}
 use Rattle.std.proofs.lemmas.List.Elements.{All-nil}
-use Rattle.rx_row.specs.Holds.{RowHolds}
+use Rattle.rx_row.specs.Holds.{AllHold, RowHolds}
+use Rattle.rx_row.specs.declared.row.Row.{Row}
 use Rattle.rx_term.proofs.ShapeLaws.{alike}
 use Rattle.rx_term.specs.Covered.{HasRule, IsCovered}
 use Rattle.rx_term.specs.Fitting.{is_alike, is_declared}
@@ -97,21 +98,22 @@ lists_end parts f there = by_symbol (slice_get parts.symbols f) refl where
 
 -- ---- trees in turn
 
-module _ (rules : List Rule) (shape : Shape) (shapes : List Shape) (trees : List CoverTree)
-    (tree : CoverTree) (others : List CoverTree) (is : trees ≡ tree ∷ others) where
+module _ (rules : List Rule) (path : List Row) (shape : Shape) (shapes : List Shape)
+    (trees : List CoverTree) (tree : CoverTree) (others : List CoverTree)
+    (is : trees ≡ tree ∷ others) where
   -- where the first tree passes the limits, so does the turn
-  pub first_beyond : tree_finding rules shape tree [] ≡ Beyond →
-      in_turn rules (shape ∷ shapes) trees ≡ Beyond
+  pub first_beyond : tree_finding rules shape tree path ≡ Beyond →
+      in_turn rules path (shape ∷ shapes) trees ≡ Beyond
   first_beyond e =
-      ap (in_turn rules (shape ∷ shapes)) is ∙
-      ap (λ found. and_also found (in_turn rules shapes others)) e
+      ap (in_turn rules path (shape ∷ shapes)) is ∙
+      ap (λ found. and_also found (in_turn rules path shapes others)) e
 
   -- where it shows its shape, the others decide
-  pub first_shows : tree_finding rules shape tree [] ≡ Yes → in_turn rules (shape ∷ shapes) trees ≡
-      in_turn rules shapes others
+  pub first_shows : tree_finding rules shape tree path ≡ Yes →
+      in_turn rules path (shape ∷ shapes) trees ≡ in_turn rules path shapes others
   first_shows e =
-      ap (in_turn rules (shape ∷ shapes)) is ∙
-      ap (λ found. and_also found (in_turn rules shapes others)) e
+      ap (in_turn rules path (shape ∷ shapes)) is ∙
+      ap (λ found. and_also found (in_turn rules path shapes others)) e
 
 -- ---- what is covered
 
@@ -149,46 +151,49 @@ module _ (parts : RuleParts) where
       (each_covered (f + 1) infos lists)
       (symbol_finding parts f (Some first) trees) refl e i info there
 
-module _ (rules : List Rule) where
-  -- where trees show their shapes in turn, each shape has a rule everywhere
+module _ (rules : List Rule) (path : List Row) where
+  -- where trees show their shapes in turn, each shape has a rule wherever the path's rows hold
   first_shown : (shape : Shape) (shapes : List Shape) (trees : List CoverTree) →
-      in_turn rules (shape ∷ shapes) trees ≡ Yes → (a : ℕ → ℤ) → HasRule rules shape a
-  first_shown shape shapes [] e a = cc
-  first_shown shape shapes (tree ∷ trees) e a =
-      tree_covers rules shape a tree [] (both_parts (tree_finding rules shape tree [])
-      (in_turn rules shapes trees) e).0 (All-nil (RowHolds a))
+      in_turn rules path (shape ∷ shapes) trees ≡ Yes → (a : ℕ → ℤ) → AllHold a path →
+      HasRule rules shape a
+  first_shown shape shapes [] e a holds = cc
+  first_shown shape shapes (tree ∷ trees) e a holds =
+      tree_covers rules shape a tree path (both_parts (tree_finding rules shape tree path)
+      (in_turn rules path shapes trees) e).0 holds
 
   others_shown : (shape : Shape) (shapes : List Shape) (trees : List CoverTree) →
-      in_turn rules (shape ∷ shapes) trees ≡ Yes
-      → (others : List CoverTree) × (in_turn rules shapes others ≡ Yes)
+      in_turn rules path (shape ∷ shapes) trees ≡ Yes
+      → (others : List CoverTree) × (in_turn rules path shapes others ≡ Yes)
   others_shown shape shapes [] e = cc
-  others_shown shape shapes (tree ∷ trees) e =
-      (trees, (both_parts (tree_finding rules shape tree []) (in_turn rules shapes trees) e).1)
+  others_shown shape shapes (tree ∷ trees) e = (
+    trees,
+    (both_parts (tree_finding rules shape tree path) (in_turn rules path shapes trees) e).1,
+  )
 
   failure_shown : (f : Sym) (from n c : ℕ) (trees : List CoverTree) →
-      in_turn rules (over_failures f from n) trees ≡ Yes
-      → from ≤ c → c < from + n → (a : ℕ → ℤ) → HasRule rules (Frame f (Fail c)) a
-  failure_shown f from zero c trees e low high a = absurd (omega (arith, low, high))
-  failure_shown f from (suc n) c trees e low high a =
+      in_turn rules path (over_failures f from n) trees ≡ Yes
+      → from ≤ c → c < from + n → (a : ℕ → ℤ) → AllHold a path → HasRule rules (Frame f (Fail c)) a
+  failure_shown f from zero c trees e low high a holds = absurd (omega (arith, low, high))
+  failure_shown f from (suc n) c trees e low high a holds =
       let others = others_shown (Frame f (Fail from)) (over_failures f (from + 1) n) trees e in
       by_code (failure_shown f (from + 1) n c others.0 others.1) (nat_eq from c) refl
     where
-      by_code : (from + 1 ≤ c → c < (from + 1) + n → (a : ℕ → ℤ) →
+      by_code : (from + 1 ≤ c → c < (from + 1) + n → (a : ℕ → ℤ) → AllHold a path →
           HasRule rules (Frame f (Fail c)) a)
           → (b : Bool) → nat_eq from c ≡ b → HasRule rules (Frame f (Fail c)) a
       by_code next true is =
           subst (λ k. HasRule rules (Frame f (Fail k)) a) (eqb-true from c is)
-          (first_shown (Frame f (Fail from)) (over_failures f (from + 1) n) trees e a)
+          (first_shown (Frame f (Fail from)) (over_failures f (from + 1) n) trees e a holds)
       by_code next false is =
           let differs = eqb-false from c is in
-          next (omega (arith, low, differs)) (omega (arith, high)) a
+          next (omega (arith, low, differs)) (omega (arith, high)) a holds
 
   turn_of : (count : ℕ) (shapes : List Shape) (trees : List CoverTree) →
-      cond (length trees == count) (in_turn rules shapes trees) No ≡ Yes →
-      in_turn rules shapes trees ≡ Yes
+      cond (length trees == count) (in_turn rules path shapes trees) No ≡ Yes →
+      in_turn rules path shapes trees ≡ Yes
   turn_of count shapes trees e = by_count (length trees == count) e where
-    by_count : (b : Bool) → cond b (in_turn rules shapes trees) No ≡ Yes →
-        in_turn rules shapes trees ≡ Yes
+    by_count : (b : Bool) → cond b (in_turn rules path shapes trees) No ≡ Yes →
+        in_turn rules path shapes trees ≡ Yes
     by_count true h = h
     by_count false h = cc
 
@@ -196,13 +201,13 @@ module _ (parts : RuleParts) (lists : List (List CoverTree)) (all : covering par
   where
     -- a declared symbol is covered as what it is declared
     declared_covered : (f : Sym) (frame : Bool) (n : ℕ) → is_declared parts.symbols f frame n ≡ true
-        → (trees : List CoverTree) × (in_turn parts.rules (redex_shapes f frame parts.fails) trees ≡
+        → (trees : List CoverTree) × (in_turn parts.rules [] (redex_shapes f frame parts.fails) trees ≡
         Yes)
     declared_covered f frame n declared = by_info (slice_get parts.symbols f.0) refl declared where
       by_info : (o : Option SymInfo) → slice_get parts.symbols f.0 ≡ o
           → option_map_or (λ (s : SymInfo). is_alike s.frame frame && nat_eq s.arity n) o false ≡
           true
-          → (trees : List CoverTree) × (in_turn parts.rules (redex_shapes f frame parts.fails) trees
+          → (trees : List CoverTree) × (in_turn parts.rules [] (redex_shapes f frame parts.fails) trees
           ≡
           Yes)
       by_info None there e = cc
@@ -212,10 +217,10 @@ module _ (parts : RuleParts) (lists : List (List CoverTree)) (all : covering par
           (each_covered parts 0 parts.symbols lists all f.0 info there) in
           let kind = alike info.frame frame (and_parts (is_alike info.frame frame)
           (nat_eq info.arity n) e).0 in
-          let shown = turn_of parts.rules (shape_count info.frame parts.fails)
+          let shown = turn_of parts.rules [] (shape_count info.frame parts.fails)
           (redex_shapes (symbol f.0) info.frame parts.fails) one.0 one.1 in (
             one.0,
-            subst (λ b. in_turn parts.rules (redex_shapes f b parts.fails) one.0 ≡ Yes) kind
+            subst (λ b. in_turn parts.rules [] (redex_shapes f b parts.fails) one.0 ≡ Yes) kind
                 shown,
           )
 
@@ -223,18 +228,20 @@ module _ (parts : RuleParts) (lists : List (List CoverTree)) (all : covering par
     pub covers_all : IsCovered parts
     covers_all _ (PointShape f n declared) a domain =
         let one = declared_covered f false n declared in
-        first_shown parts.rules (Call f) [] one.0 one.1 a
+        first_shown parts.rules [] (Call f) [] one.0 one.1 a (All-nil (RowHolds a))
     covers_all _ (ReturnShape f n declared) a domain =
         let one = declared_covered f true n declared in
-        first_shown parts.rules (Frame f Return) (over_failures f 1 parts.fails) one.0 one.1 a
+        first_shown parts.rules [] (Frame f Return) (over_failures f 1 parts.fails) one.0 one.1 a
+        (All-nil (RowHolds a))
     covers_all _ (FailShape f n c declared fits) a domain =
         let one = declared_covered f true n declared in
-        let others = others_shown parts.rules (Frame f Return) (over_failures f 1 parts.fails) one.0
-        one.1 in
+        let others = others_shown parts.rules [] (Frame f Return) (over_failures f 1 parts.fails)
+        one.0 one.1 in
         let both = and_parts (nat_le 1 c) (nat_le c parts.fails) fits in
         let low = leb-true 1 c both.0 in
         let high = leb-true c parts.fails both.1 in
-        failure_shown parts.rules f 1 parts.fails c others.0 others.1 low (omega (arith, high)) a
+        failure_shown parts.rules [] f 1 parts.fails c others.0 others.1 low (omega (arith, high)) a
+        (All-nil (RowHolds a))
 
 -- the same of an answer
 pub answer_covered : (parts : RuleParts) (lists : List (List CoverTree))

@@ -1,6 +1,7 @@
 -- Cover trees for a rule set: for each symbol a list, one tree for each shape that a redex with
 -- that symbol has.
 use Rattle.std.specs.Prelude.{Bool, true, false, if◌then◌else◌, ℕ, zero, suc, ◌+◌, ◌==◌, Option, Some, None, List, [], ◌∷◌, length, slice_get}
+use Rattle.rx_row.specs.declared.row.Row.{Row}
 use Rattle.rx_cert.specs.Findings.{Said, Yes, No, Beyond, and_also}
 use Rattle.rx_term.specs.Shapes.{Shape, Return, Fail, Call, Frame}
 use Rattle.rx_term.specs.declared.rule.Rule.{Rule}
@@ -30,26 +31,25 @@ abbrev pub shape_count : Bool → ℕ → ℕ
 shape_count false fails = 1
 shape_count true fails = fails + 1
 
--- each tree shows its shape, the path's rows being none; trees after those of the shapes are not
--- examined
-abbrev pub in_turn : List Rule → List Shape → List CoverTree → Said
-in_turn rules [] trees = Yes
-in_turn rules (shape ∷ shapes) [] = No
-in_turn rules (shape ∷ shapes) (tree ∷ trees) =
-    and_also (tree_finding rules shape tree []) (in_turn rules shapes trees)
+-- each tree shows its shape at the path; trees after those of the shapes are not examined
+abbrev pub in_turn : List Rule → List Row → List Shape → List CoverTree → Said
+in_turn rules path [] trees = Yes
+in_turn rules path (shape ∷ shapes) [] = No
+in_turn rules path (shape ∷ shapes) (tree ∷ trees) =
+    and_also (tree_finding rules shape tree path) (in_turn rules path shapes trees)
 
--- whether the trees show the shapes of the symbol, a frame or a point; where there is another
--- number of trees than of shapes, nothing is examined
-abbrev pub shapes_finding : List Rule → ℕ → Sym → Bool → List CoverTree → Said
-shapes_finding rules fails f frame trees =
+-- whether the trees show the shapes of the symbol, a frame or a point, at the path; where there is
+-- another number of trees than of shapes, nothing is examined
+abbrev pub shapes_finding : List Rule → ℕ → Sym → Bool → List Row → List CoverTree → Said
+shapes_finding rules fails f frame path trees =
     if length trees == shape_count frame fails then
-    in_turn rules (redex_shapes f frame fails) trees else No
+    in_turn rules path (redex_shapes f frame fails) trees else No
 
--- no trees cover a symbol that isn't there
+-- no trees cover a symbol that isn't there; otherwise their paths begin without rows
 abbrev pub symbol_finding : RuleParts → ℕ → Option SymInfo → List CoverTree → Said
 symbol_finding parts f None trees = No
 symbol_finding parts f (Some info) trees =
-    shapes_finding parts.rules parts.fails (symbol f) info.frame trees
+    shapes_finding parts.rules parts.fails (symbol f) info.frame [] trees
 
 abbrev pub one_covered : RuleParts → ℕ → List CoverTree → Said
 one_covered parts f trees = symbol_finding parts f (slice_get parts.symbols f) trees

@@ -3,8 +3,6 @@ ghost use Rattle.std.specs.Prelude.{◌≡◌, ◌<◌, ◌+◌, ◌∷◌, [], 
 ghost use Rattle.rx_cover.specs.Answers.{Tells};
 ghost use Rattle.rx_cover.specs.Covering.{Covers, covering, goes_on, in_turn, one_covered, over_failures, redex_shapes, shapes_finding, symbol};
 ghost use Rattle.rx_cert.specs.Findings.{Beyond, said};
-ghost use Rattle.rx_cover.specs.Redexes.{shape_at};
-ghost use Rattle.rx_cover.specs.Trees.{tree_finding};
 ghost use Rattle.rx_term.specs.Covered.{IsCovered};
 
 use crate::cover_end::CoverEnd;
@@ -17,111 +15,101 @@ use rx_row::Constraint;
 use rx_term::{Rule, RuleSet};
 use std::alloc::Global;
 
-/// Whether the tree shows its shape where no rows are known.
-fn examine_alone(
-    alloc: Global,
-    rules: &[Rule],
-    sym: usize,
-    redex: Redex,
-    tree: &CoverTree,
-) -> Result<bool, PolyEnd>
-    ensures answer { IfOk result (λ b. tree_finding rules.now (shape_at (symbol sym) redex) tree.now
-        [] ≡ said b) }
-    ensures large { IfErr result (λ e. e ≡ PolyEnd.Large →
-        tree_finding rules.now (shape_at (symbol sym) redex) tree.now [] ≡ Beyond) }
-{
-    let mut path = Constraint::from_rows(Vec::new(alloc));
-    examine(alloc, rules, sym, redex, &mut path, tree)
-}
-
-/// Whether the trees show, one each, the frame over the failures with the codes 1, 2, and so on.
+/// Whether the trees show, one each, the frame over the failures with the codes 1, 2, and so on, at
+/// the path.
 fn examine_failures(
     alloc: Global,
     rules: &[Rule],
     sym: usize,
+    path: &mut Constraint,
     trees: &[CoverTree],
 ) -> Result<bool, PolyEnd>
     requires { length trees.now < 256 }
-    ensures answer { IfOk result (λ b. in_turn rules.now
+    ensures answer { IfOk result (λ b. in_turn rules.now path.old
         (over_failures (symbol sym) 1 (length trees.now)) trees.now ≡ said b) }
-    ensures large { IfErr result (λ e. e ≡ PolyEnd.Large →
-        in_turn rules.now (over_failures (symbol sym) 1 (length trees.now)) trees.now ≡ Beyond) }
+    ensures large { IfErr result (λ e. e ≡ PolyEnd.Large → in_turn rules.now path.old
+        (over_failures (symbol sym) 1 (length trees.now)) trees.now ≡ Beyond) }
 {
     for (at, tree) in trees.iter().enumerate() {
         let code = at as u8 + 1;
-        if !examine_alone(alloc, rules, sym, Redex::OverFail(code), tree)? {
+        if !examine(alloc, rules, sym, Redex::OverFail(code), path, tree)? {
             return Ok(false);
         }
     }
     Ok(true)
 }
 
-/// Whether the trees show the shapes of a frame: over a returned value, and over each failure code.
+/// Whether the trees show the shapes of a frame at the path: over a returned value, and over each
+/// failure code.
 fn examine_frame(
     alloc: Global,
     rules: &[Rule],
     fails: u8,
     sym: usize,
+    path: &mut Constraint,
     trees: &[CoverTree],
 ) -> Result<bool, PolyEnd>
     requires { length trees.now ≡ fails + 1 }
-    ensures answer { IfOk result (λ b. in_turn rules.now (redex_shapes (symbol sym) true fails)
-        trees.now ≡ said b) }
-    ensures large { IfErr result (λ e. e ≡ PolyEnd.Large →
-        in_turn rules.now (redex_shapes (symbol sym) true fails) trees.now ≡ Beyond) }
+    ensures answer { IfOk result (λ b. in_turn rules.now path.old
+        (redex_shapes (symbol sym) true fails) trees.now ≡ said b) }
+    ensures large { IfErr result (λ e. e ≡ PolyEnd.Large → in_turn rules.now path.old
+        (redex_shapes (symbol sym) true fails) trees.now ≡ Beyond) }
 {
     let Some((first, others)) = trees.split_first() else {
         return Ok(false);
     };
-    if !examine_alone(alloc, rules, sym, Redex::OverReturn, first)? {
+    if !examine(alloc, rules, sym, Redex::OverReturn, path, first)? {
         return Ok(false);
     }
-    examine_failures(alloc, rules, sym, others)
+    examine_failures(alloc, rules, sym, path, others)
 }
 
-/// Whether the first tree shows the shape of a point.
+/// Whether the first tree shows the shape of a point at the path.
 fn examine_point(
     alloc: Global,
     rules: &[Rule],
     fails: u8,
     sym: usize,
+    path: &mut Constraint,
     trees: &[CoverTree],
 ) -> Result<bool, PolyEnd>
-    ensures answer { IfOk result (λ b. in_turn rules.now (redex_shapes (symbol sym) false fails)
-        trees.now ≡ said b) }
-    ensures large { IfErr result (λ e. e ≡ PolyEnd.Large →
-        in_turn rules.now (redex_shapes (symbol sym) false fails) trees.now ≡ Beyond) }
+    ensures answer { IfOk result (λ b. in_turn rules.now path.old
+        (redex_shapes (symbol sym) false fails) trees.now ≡ said b) }
+    ensures large { IfErr result (λ e. e ≡ PolyEnd.Large → in_turn rules.now path.old
+        (redex_shapes (symbol sym) false fails) trees.now ≡ Beyond) }
 {
     let Some((tree, _)) = trees.split_first() else {
         return Ok(false);
     };
-    examine_alone(alloc, rules, sym, Redex::Call, tree)
+    examine(alloc, rules, sym, Redex::Call, path, tree)
 }
 
-/// Whether the trees are as many as the symbol, a frame or a point, has shapes, and show these.
+/// Whether the trees are as many as the symbol, a frame or a point, has shapes, and show these at
+/// the path.
 fn examine_shapes(
     alloc: Global,
     rules: &[Rule],
     fails: u8,
     sym: usize,
     frame: bool,
+    path: &mut Constraint,
     trees: &[CoverTree],
 ) -> Result<bool, PolyEnd>
-    ensures answer { IfOk result (λ b. shapes_finding rules.now fails (symbol sym) frame trees.now ≡
-        said b) }
+    ensures answer { IfOk result (λ b. shapes_finding rules.now fails (symbol sym) frame path.old
+        trees.now ≡ said b) }
     ensures large { IfErr result (λ e. e ≡ PolyEnd.Large →
-        shapes_finding rules.now fails (symbol sym) frame trees.now ≡ Beyond) }
+        shapes_finding rules.now fails (symbol sym) frame path.old trees.now ≡ Beyond) }
 {
     if frame {
         if trees.len() != fails as usize + 1 {
             return Ok(false);
         }
-        examine_frame(alloc, rules, fails, sym, trees)
+        examine_frame(alloc, rules, fails, sym, path, trees)
     } else {
         if trees.len() != 1 {
             return Ok(false);
         }
-        examine_point(alloc, rules, fails, sym, trees)
+        examine_point(alloc, rules, fails, sym, path, trees)
     }
 }
 
@@ -136,12 +124,12 @@ fn examine_symbol(
     ensures large { IfErr result (λ e. e ≡ PolyEnd.Large → one_covered rules.now sym trees.now ≡
         Beyond) }
 {
-    match rules.symbols().get(sym) {
-        Some(info) => {
-            examine_shapes(alloc, rules.rules(), rules.fails(), sym, info.frame, trees)
-        }
-        None => Ok(false),
-    }
+    let Some(info) = rules.symbols().get(sym) else {
+        return Ok(false);
+    };
+    let mut path = Constraint::from_rows(Vec::new(alloc));
+    let (all, fails) = (rules.rules(), rules.fails());
+    examine_shapes(alloc, all, fails, sym, info.frame, &mut path, trees)
 }
 
 /// Whether the trees cover the symbol with that number: one tree for a point, and for a frame one

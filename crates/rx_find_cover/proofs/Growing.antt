@@ -7,6 +7,7 @@ use Rattle.std.proofs.lemmas.Bool.{eq-eqb}
 use Rattle.std.proofs.lemmas.List.{map-append}
 use Rattle.std.proofs.lemmas.List.Elements.{All-append, All-cons, All-nil}
 use Rattle.rx_cert.specs.Findings.{Yes, No, and_also}
+use Rattle.rx_row.specs.declared.row.Row.{Row}
 use Rattle.rx_term.proofs.Places.{from_place}
 use Rattle.rx_term.specs.Shapes.{Shape, Fail, Frame}
 use Rattle.rx_term.specs.declared.rule.Rule.{Rule}
@@ -15,7 +16,7 @@ use Rattle.rx_term.specs.declared.rule_set.SymInfo.{SymInfo}
 use Rattle.rx_term.specs.declared.term.Sym.{Sym}
 use Rattle.rx_cover.specs.Covering.{Covers, covering, covering_from, goes_on, in_turn, over_failures, redex_shapes, shape_count, shapes_finding, symbol}
 use Rattle.rx_cover.specs.declared.cover_tree.CoverTree.{CoverTree}
-use Rattle.rx_find_cover.specs.Answers.{AreSmall, AreTrees, IsCover, outcome, parts_of}
+use Rattle.rx_find_cover.specs.Answers.{AreSmall, AreTrees, IsCover, outcome}
 use Rattle.rx_find_cover.specs.Coverable.{coverage, shapes_coverage, symbols_coverage}
 use Rattle.rx_find_cover.specs.Coverage.{and_then, noting}
 use Rattle.rx_find_cover.proofs.CoverageLaws.{and_more}
@@ -27,33 +28,33 @@ use Rattle.rx_find_cover.specs.declared.redex.Redex.TheVariants.{OverFail}
 
 -- ---- the trees of one symbol
 
-module _ (rules : List Rule) (whole : List Shape) where
+module _ (rules : List Rule) (path : List Row) (whole : List Shape) where
   -- trees so far, and trees for the shapes that are left, show all in turn
   pub record Growing (rest : List Shape) (trees : List CoverTree) : Type 0 where
-    pub shows : (more : List CoverTree) → in_turn rules rest more ≡ Yes →
-        in_turn rules whole (trees ++ more) ≡ Yes
+    pub shows : (more : List CoverTree) → in_turn rules path rest more ≡ Yes →
+        in_turn rules path whole (trees ++ more) ≡ Yes
     pub count : length trees + length rest ≡ length whole
-    pub small : All (IsSmall rules 33 []) trees
+    pub small : All (IsSmall rules 33 path) trees
 
   pub start : Growing whole []
-  start = record { shows = λ more e. e; count = omega arith; small = All-nil (IsSmall rules 33 []) }
+  start = record { shows = λ more e. e; count = omega arith; small = All-nil (IsSmall rules 33 path) }
 
   pub grown : (shape : Shape) (rest : List Shape) (trees : List CoverTree) (tree : CoverTree) →
-      Growing (shape ∷ rest) trees → IsTree rules shape 33 [] tree →
+      Growing (shape ∷ rest) trees → IsTree rules shape 33 path tree →
       Growing rest (trees ++ tree ∷ [])
   grown shape rest trees tree g t = record {
     shows = λ more e.
-        ap (in_turn rules whole) (append_assoc trees (tree ∷ []) more)
-        ∙ g.shows (tree ∷ more) (ap (λ s. and_also s (in_turn rules rest more)) t.shows ∙ e);
+        ap (in_turn rules path whole) (append_assoc trees (tree ∷ []) more)
+        ∙ g.shows (tree ∷ more) (ap (λ s. and_also s (in_turn rules path rest more)) t.shows ∙ e);
     count = let c = g.count in omega (arith, length-append trees (tree ∷ []));
     small =
-        All-append (IsSmall rules 33 []) trees (tree ∷ []) g.small
-        (All-cons (IsSmall rules 33 []) tree [] t.small (All-nil (IsSmall rules 33 [])));
+        All-append (IsSmall rules 33 path) trees (tree ∷ []) g.small
+        (All-cons (IsSmall rules 33 path) tree [] t.small (All-nil (IsSmall rules 33 path)));
   }
 
-  pub all_grown : (trees : List CoverTree) → Growing [] trees → AreTrees rules whole trees
+  pub all_grown : (trees : List CoverTree) → Growing [] trees → AreTrees rules path whole trees
   all_grown trees g = record {
-    shows = ap (in_turn rules whole) (sym (append-nil trees)) ∙ g.shows [] refl;
+    shows = ap (in_turn rules path whole) (sym (append-nil trees)) ∙ g.shows [] refl;
     count = let c = g.count in omega arith;
     small = g.small;
   }
@@ -104,18 +105,18 @@ module _ (parts : RuleParts) where
   first_list = record { covers = λ more e. e; small = All-nil (AreSmall parts) }
 
   one_finds : (f : ℕ) (frame : Bool) (trees : List CoverTree) →
-      AreTrees parts.rules (redex_shapes (symbol f) frame parts.fails) trees →
-      shapes_finding parts.rules parts.fails (symbol f) frame trees ≡ Yes
+      AreTrees parts.rules [] (redex_shapes (symbol f) frame parts.fails) trees →
+      shapes_finding parts.rules parts.fails (symbol f) frame [] trees ≡ Yes
   one_finds f frame trees t =
       let count : length trees ≡ shape_count frame parts.fails = t.count ∙
       shapes_counted (symbol f) frame parts.fails in
-      ap (λ b. cond b (in_turn parts.rules (redex_shapes (symbol f) frame parts.fails) trees) No)
+      ap (λ b. cond b (in_turn parts.rules [] (redex_shapes (symbol f) frame parts.fails) trees) No)
       (eq-eqb (length trees) (shape_count frame parts.fails) count)
       ∙ t.shows
 
   pub listed : (f : ℕ) (info : SymInfo) (rest : List SymInfo) (lists : List (List CoverTree))
       (trees : List CoverTree) → Listing f (info ∷ rest) lists →
-      AreTrees parts.rules (redex_shapes (symbol f) info.frame parts.fails) trees →
+      AreTrees parts.rules [] (redex_shapes (symbol f) info.frame parts.fails) trees →
       Listing (f + 1) rest (lists ++ trees ∷ [])
   listed f info rest lists trees l t = record {
     covers = λ more e.
@@ -136,11 +137,6 @@ module _ (parts : RuleParts) where
             l.small;
       }
 
--- a rule set is that of its parts
-pub parts_are : (parts : RuleParts) {symbols : List SymInfo} {rules : List Rule} → symbols ≡
-    parts.symbols → rules ≡ parts.rules → parts_of symbols rules parts.fails ≡ parts
-parts_are parts e f = λ i. record { symbols = e i; domains = parts.domains; rules = f i; fails = parts.fails }
-
 -- ---- one turn of the walk over the symbols
 
 module _ (parts : RuleParts) (f : ℕ) (info : SymInfo)
@@ -150,7 +146,7 @@ module _ (parts : RuleParts) (f : ℕ) (info : SymInfo)
 
   -- what is found of the symbol, and then of the others, is what is found of all
   pub next_symbol : (noted : Bool) (b : Built (List CoverTree)) (trees : List CoverTree) →
-      outcome b ≡ shapes_coverage parts.rules (redex_shapes (symbol f) info.frame parts.fails) →
+      outcome b ≡ shapes_coverage parts.rules [] (redex_shapes (symbol f) info.frame parts.fails) →
       b.made ≡ Some trees → noting noted (symbols_coverage parts f (drop f parts.symbols)) ≡
       coverage parts → noting (noted || b.noted) (symbols_coverage parts (f + 1) rest) ≡
       coverage parts
@@ -163,11 +159,11 @@ module _ (parts : RuleParts) (f : ℕ) (info : SymInfo)
 
   pub listed_next : (lists longer : List (List CoverTree)) (made : Option (List CoverTree))
       (trees : List CoverTree) → Listing parts f (drop f parts.symbols) lists → made ≡ Some trees →
-      IfSome made (AreTrees parts.rules (redex_shapes (symbol f) info.frame parts.fails)) → longer ≡
+      IfSome made (AreTrees parts.rules [] (redex_shapes (symbol f) info.frame parts.fails)) → longer ≡
       lists ++ trees ∷ [] → Listing parts (f + 1) rest longer
   listed_next lists longer made trees l is t new =
       subst (Listing parts (f + 1) rest) (sym new)
       (listed parts f info rest lists trees (subst (λ infos. Listing parts f infos lists)
       (from_place parts.symbols f info there) l)
-      (subst (λ o. IfSome o (AreTrees parts.rules (redex_shapes (symbol f) info.frame parts.fails)))
+      (subst (λ o. IfSome o (AreTrees parts.rules [] (redex_shapes (symbol f) info.frame parts.fails)))
       is t))

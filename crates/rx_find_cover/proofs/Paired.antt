@@ -133,25 +133,25 @@ module _ (parts : RuleParts) (paired : IsPaired parts) where
 
   failures_cover : (f : Sym) (n : ℕ) → is_declared parts.symbols f true n ≡ true →
       (from count : ℕ) → 1 ≤ from → from + count ≤ parts.fails + 1 →
-      Covered (shapes_coverage parts.rules (over_failures f from count))
+      Covered (shapes_coverage parts.rules [] (over_failures f from count))
   failures_cover f n declared from zero low high = refl
   failures_cover f n declared from (suc count) low high =
       let a : nat_le 1 from ≡ true = grind arith in
       let b : nat_le from parts.fails ≡ true = grind arith in
       and_both (covering_at (rules_of_shape (Frame f (Fail from)) parts.rules) 32 [])
-      (shapes_coverage parts.rules (over_failures f (from + 1) count))
+      (shapes_coverage parts.rules [] (over_failures f (from + 1) count))
       (one_shape (Frame f (Fail from)) (FailShape f n from declared
       (and_from (nat_le 1 from) (nat_le from parts.fails) a b)))
       (failures_cover f n declared (from + 1) count (omega arith) (omega arith))
 
   shapes_cover : (f : Sym) (frame : Bool) (n : ℕ) → is_declared parts.symbols f frame n ≡ true →
-      Covered (shapes_coverage parts.rules (redex_shapes f frame parts.fails))
+      Covered (shapes_coverage parts.rules [] (redex_shapes f frame parts.fails))
   shapes_cover f false n declared =
       and_both (covering_at (rules_of_shape (Call f) parts.rules) 32 []) holds
       (one_shape (Call f) (PointShape f n declared)) refl
   shapes_cover f true n declared =
       and_both (covering_at (rules_of_shape (Frame f Return) parts.rules) 32 [])
-      (shapes_coverage parts.rules (over_failures f 1 parts.fails))
+      (shapes_coverage parts.rules [] (over_failures f 1 parts.fails))
       (one_shape (Frame f Return) (ReturnShape f n declared))
       (failures_cover f n declared 1 parts.fails (omega arith) (omega arith))
 
@@ -169,7 +169,7 @@ module _ (parts : RuleParts) (paired : IsPaired parts) where
   symbols_cover f [] at = refl
   symbols_cover f (info ∷ infos) at =
       let number : f + 0 ≡ f = omega arith in
-      and_both (shapes_coverage parts.rules (redex_shapes (symbol f) info.frame parts.fails))
+      and_both (shapes_coverage parts.rules [] (redex_shapes (symbol f) info.frame parts.fails))
       (symbols_coverage parts (f + 1) infos)
       (shapes_cover (symbol f) info.frame info.arity
       (declared_there f info (subst (λ k. slice_get parts.symbols k ≡ Some info) number

@@ -1,10 +1,10 @@
 -- What the answers of a search for trees say.
 use Rattle.std.specs.Prelude.{◌≡◌, ℕ, All, is_some, List, [], length}
 use Rattle.rx_cert.specs.Findings.{Yes}
+use Rattle.rx_row.specs.declared.row.Row.{Row}
 use Rattle.rx_term.specs.Shapes.{Shape}
 use Rattle.rx_term.specs.declared.rule.Rule.{Rule}
 use Rattle.rx_term.specs.declared.rule_set.RuleParts.{RuleParts}
-use Rattle.rx_term.specs.declared.rule_set.SymInfo.{SymInfo}
 use Rattle.rx_cover.specs.Covering.{Covers, covering, in_turn}
 use Rattle.rx_cover.specs.declared.cover_tree.CoverTree.{CoverTree}
 use Rattle.rx_find_cover.specs.Coverage.{Coverage}
@@ -15,21 +15,17 @@ use Rattle.rx_find_cover.specs.declared.built.Built.{Built}
 abbrev pub outcome : {A : Type 0} → Built A → Coverage
 outcome {A} b = record { covered = is_some b.made; noted = b.noted }
 
--- a rule set of these parts
-abbrev pub parts_of : List SymInfo → List Rule → ℕ → RuleParts
-parts_of symbols rules fails = record { symbols = symbols; rules = rules; fails = fails }
-
 -- each tree of a list is at most 33 deep, its certificates at most 174, and it has no variables
 -- but those of the rules
 abbrev pub AreSmall : RuleParts → List CoverTree → Type 0
 AreSmall parts trees = All (IsSmall parts.rules 33 []) trees
 
--- trees that show the shapes, one each
-pub record AreTrees (rules : List Rule) (shapes : List Shape) (trees : List CoverTree) : Type 0
-  where
-    pub shows : in_turn rules shapes trees ≡ Yes
-    pub count : length trees ≡ length shapes
-    pub small : All (IsSmall rules 33 []) trees
+-- trees that show the shapes at the path, one each
+pub record AreTrees (rules : List Rule) (path : List Row) (shapes : List Shape)
+    (trees : List CoverTree) : Type 0 where
+  pub shows : in_turn rules path shapes trees ≡ Yes
+  pub count : length trees ≡ length shapes
+  pub small : All (IsSmall rules 33 path) trees
 
 -- lists that cover the rule set
 pub record IsCover (parts : RuleParts) (lists : List (List CoverTree)) : Type 0 where

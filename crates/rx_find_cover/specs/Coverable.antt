@@ -56,18 +56,18 @@ unless_used rules (suc n) path = splitting (first_open path rules) (covering_at 
 abbrev pub most_splits : ℕ
 most_splits = 32
 
--- the shapes in order, by the rules of each
-abbrev pub shapes_coverage : List Rule → List Shape → Coverage
-shapes_coverage rules [] = holds
-shapes_coverage rules (shape ∷ shapes) =
-    and_then (covering_at (rules_of_shape shape rules) most_splits [])
-    (shapes_coverage rules shapes)
+-- the shapes in order at the path, by the rules of each
+abbrev pub shapes_coverage : List Rule → List Row → List Shape → Coverage
+shapes_coverage rules path [] = holds
+shapes_coverage rules path (shape ∷ shapes) =
+    and_then (covering_at (rules_of_shape shape rules) most_splits path)
+    (shapes_coverage rules path shapes)
 
--- the symbols in order, the first having that number
+-- the symbols in order, the first having that number; their paths begin without rows
 abbrev pub symbols_coverage : RuleParts → ℕ → List SymInfo → Coverage
 symbols_coverage parts f [] = holds
 symbols_coverage parts f (info ∷ infos) =
-    and_then (shapes_coverage parts.rules (redex_shapes (symbol f) info.frame parts.fails))
+    and_then (shapes_coverage parts.rules [] (redex_shapes (symbol f) info.frame parts.fails))
     (symbols_coverage parts (f + 1) infos)
 
 abbrev pub coverage : RuleParts → Coverage

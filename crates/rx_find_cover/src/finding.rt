@@ -1,7 +1,7 @@
 //! Trees for a rule set, symbol by symbol.
 ghost use Rattle.std.specs.Prelude.{◌≡◌, All, true, IfOk, IfErr, IfSome, MatchOption};
 ghost use Rattle.rx_cover.specs.Covering.{Covers, covering};
-ghost use Rattle.rx_find_cover.specs.Answers.{AreSmall, IsCover, outcome, parts_of};
+ghost use Rattle.rx_find_cover.specs.Answers.{AreSmall, IsCover, outcome};
 ghost use Rattle.rx_find_cover.specs.Coverable.{coverage, is_coverable};
 ghost use Rattle.rx_find_cover.specs.Coverage.{beyond, fails};
 ghost use Rattle.rx_solve.specs.Answers.{IsSolver};
@@ -13,41 +13,10 @@ use rx_cover::CoverTree;
 use rx_fm::FmEnd;
 use rx_plain::{Items, NoMemory};
 use rx_row::Constraint;
-use rx_term::{Rule, RuleParts, RuleSet, SymInfo};
+use rx_term::{RuleParts, RuleSet};
 use std::alloc::Global;
 
-/// The lists of trees of the symbols in order, up to the first that has none.
-fn build_lists<S: FnMut(&Constraint) -> Result<Option<Cert>, FmEnd>>(
-    alloc: Global,
-    symbols: &[SymInfo],
-    rules: &[Rule],
-    fails: u8,
-    solve: &mut S,
-) -> Result<Built<Items<Items<CoverTree>>>, NoMemory>
-    requires solver { IsSolver S.FnMut solve.old }
-    ensures solver { IsSolver S.FnMut solve.new }
-    ensures coverage { IfOk result (λ b. outcome b ≡
-        coverage (parts_of symbols.now rules.now fails)) }
-    ensures lists { IfOk result (λ b. IfSome b.made
-        (IsCover (parts_of symbols.now rules.now fails))) }
-{
-    let mut lists = Items::new(alloc);
-    let mut noted = false;
-    for (sym, info) in symbols.iter().enumerate() {
-        let tried = build_symbol(alloc, rules, sym, info.frame, fails, solve)?;
-        noted = noted || tried.noted;
-        let Some(trees) = tried.made else {
-            return Ok(Built { made: None, noted });
-        };
-        lists.push(trees)?;
-    }
-    Ok(Built {
-        made: Some(lists),
-        noted,
-    })
-}
-
-/// Cover trees for each symbol of the rule set, if they are found.
+/// Cover trees for each symbol of the rule set in order, up to the first that has none.
 fn build_cover<S: FnMut(&Constraint) -> Result<Option<Cert>, FmEnd>>(
     alloc: Global,
     parts: &RuleParts,
@@ -58,9 +27,21 @@ fn build_cover<S: FnMut(&Constraint) -> Result<Option<Cert>, FmEnd>>(
     ensures coverage { IfOk result (λ b. outcome b ≡ coverage parts.now) }
     ensures lists { IfOk result (λ b. IfSome b.made (IsCover parts.now)) }
 {
-    let symbols = parts.symbols.as_slice();
-    let rules = parts.rules.as_slice();
-    build_lists(alloc, symbols, rules, parts.fails, solve)
+    let mut lists = Items::new(alloc);
+    let mut noted = false;
+    for (sym, info) in parts.symbols.as_slice().iter().enumerate() {
+        let rules = parts.rules.as_slice();
+        let tried = build_symbol(alloc, rules, sym, info.frame, parts.fails, solve)?;
+        noted = noted || tried.noted;
+        let Some(trees) = tried.made else {
+            return Ok(Built { made: None, noted });
+        };
+        lists.push(trees)?;
+    }
+    Ok(Built {
+        made: Some(lists),
+        noted,
+    })
 }
 
 /// Lists of trees that cover the rule set, one list for each symbol in order, one tree for each

@@ -2,11 +2,9 @@
 ghost use Rattle.std.specs.Prelude.{◌≡◌, [], true, map, IfOk, IfSome};
 ghost use Rattle.rx_cover.specs.Covering.{redex_shapes, symbol};
 ghost use Rattle.rx_find_cover.specs.Answers.{AreTrees, outcome};
-ghost use Rattle.rx_find_cover.specs.Coverable.{covering_at, most_splits, shapes_coverage};
+ghost use Rattle.rx_find_cover.specs.Coverable.{shapes_coverage};
 ghost use Rattle.rx_find_cover.specs.Redexes.{shape_at};
-ghost use Rattle.rx_find_cover.specs.Trees.{IsTree};
 ghost use Rattle.rx_solve.specs.Answers.{IsSolver};
-ghost use Rattle.rx_term.specs.Paired.{rules_of_shape};
 ghost use Rattle.rx_term.specs.declared.term.Sym.{Sym};
 
 use crate::building::build;
@@ -48,44 +46,26 @@ fn redexes_of(alloc: Global, frame: bool, fails: u8) -> Result<Items<Redex>, All
     Ok(redexes)
 }
 
-/// The tree for the shape where no rows are known.
-fn build_alone<S: FnMut(&Constraint) -> Result<Option<Cert>, FmEnd>>(
-    alloc: Global,
-    rules: &[Rule],
-    sym: usize,
-    redex: Redex,
-    solve: &mut S,
-) -> Result<Built<CoverTree>, NoMemory>
-    requires solver { IsSolver S.FnMut solve.old }
-    ensures solver { IsSolver S.FnMut solve.new }
-    ensures coverage { IfOk result (λ b. outcome b ≡
-        covering_at (rules_of_shape (shape_at (symbol sym) redex) rules.now) most_splits []) }
-    ensures tree { IfOk result (λ b. IfSome b.made
-        (IsTree rules.now (shape_at (symbol sym) redex) 33 [])) }
-{
-    let mut path = Constraint::from_rows(Vec::new(alloc));
-    build(alloc, rules, sym, redex, &mut path, MOST_SPLITS, solve)
-}
-
-/// The trees for the shapes in order, up to the first that has none.
+/// The trees for the shapes in order, up to the first that has none at the path.
 fn build_shapes<S: FnMut(&Constraint) -> Result<Option<Cert>, FmEnd>>(
     alloc: Global,
     rules: &[Rule],
     sym: usize,
+    path: &mut Constraint,
     redexes: &[Redex],
     solve: &mut S,
 ) -> Result<Built<Items<CoverTree>>, NoMemory>
     requires solver { IsSolver S.FnMut solve.old }
     ensures solver { IsSolver S.FnMut solve.new }
     ensures coverage { IfOk result (λ b. outcome b ≡
-        shapes_coverage rules.now (map (shape_at (symbol sym)) redexes.now)) }
+        shapes_coverage rules.now path.old (map (shape_at (symbol sym)) redexes.now)) }
     ensures trees { IfOk result (λ b. IfSome b.made
-        (AreTrees rules.now (map (shape_at (symbol sym)) redexes.now))) }
+        (AreTrees rules.now path.old (map (shape_at (symbol sym)) redexes.now))) }
 {
     let mut trees = Items::new(alloc);
     let mut noted = false;
     for redex in redexes {
-        let tried = build_alone(alloc, rules, sym, *redex, solve)?;
+        let tried = build(alloc, rules, sym, *redex, path, MOST_SPLITS, solve)?;
         noted = noted || tried.noted;
         let Some(tree) = tried.made else {
             return Ok(Built { made: None, noted });
@@ -110,10 +90,11 @@ pub(crate) fn build_symbol<S: FnMut(&Constraint) -> Result<Option<Cert>, FmEnd>>
     requires solver { IsSolver S.FnMut solve.old }
     ensures solver { IsSolver S.FnMut solve.new }
     ensures coverage { IfOk result (λ b. outcome b ≡
-        shapes_coverage rules.now (redex_shapes (symbol sym) frame fails)) }
+        shapes_coverage rules.now [] (redex_shapes (symbol sym) frame fails)) }
     ensures trees { IfOk result (λ b. IfSome b.made
-        (AreTrees rules.now (redex_shapes (symbol sym) frame fails))) }
+        (AreTrees rules.now [] (redex_shapes (symbol sym) frame fails))) }
 {
     let redexes = redexes_of(alloc, frame, fails)?;
-    build_shapes(alloc, rules, sym, redexes.as_slice(), solve)
+    let mut path = Constraint::from_rows(Vec::new(alloc));
+    build_shapes(alloc, rules, sym, &mut path, redexes.as_slice(), solve)
 }

@@ -85,13 +85,13 @@ module _ (old : State) (f : FormedStep) where
   unfolding Follows
   nothing_follows none parts s is = absurd (none_formed parts old s f is none)
 
-  -- by what is shown under the rows of the first goal
+  -- by what is shown under the rows of the first goal, and of the first new one
   pub shown_follows : (goal : Equation) (a x : AllShown) → Some goal ≡ slice_get old.goals 0 →
-      ((new : List Row) → IsAskedShown goal.rows new f.asked a) → a ≡ x →
+      IsAskedShown goal.rows (first_rows f.goals) f.asked a → a ≡ x →
       Follows old f (outcome_for f x)
   unfolding Follows
   shown_follows goal a x first shown is parts s formed =
       let here = subst (λ g. IsAskedShown g (first_rows f.goals) f.asked a)
-      (first_goal_rows old.goals goal first) (shown (first_rows f.goals)) in
+      (first_goal_rows old.goals goal first) shown in
       outcome_of parts old s f formed x (subst
       (λ y. IsAskedShown (first_rows old.goals) (first_rows f.goals) f.asked y) is here)

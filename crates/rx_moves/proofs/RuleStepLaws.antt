@@ -116,7 +116,8 @@ module _ (goal : Equation) (side : Side) (i : RuleInstance) (a : AllShown) (rows
       slice_get state.goals 0 →
       Follows state (rule_made goal side i) (outcome_for (rule_made goal side i) x)
   rows_follow x is state first =
-      shown_follows state (rule_made goal side i) goal a x first asked_so is
+      shown_follows state (rule_made goal side i) goal a x first
+      (asked_so (first_rows (rule_made goal side i).goals)) is
 
   -- so where they are shown, with what is made of it
   pub shown_made : (certs : List Cert) (made : FormedStep) → a ≡ all.Shown certs → made ≡

@@ -22,8 +22,6 @@ use Rattle.rx_moves.specs.declared.formation.Formation.TheVariants as formation
 use Rattle.rx_moves.specs.declared.outcome.Outcome.{Outcome}
 use Rattle.rx_moves.specs.declared.outcome.Outcome.TheVariants as out
 use Rattle.rx_inference.specs.Kinds.{formed}
-use Rattle.rx_steps.specs.Faults.{asks_goal_alone}
-use Rattle.rx_steps.proofs.OneGroup.{formed_alone}
 use Rattle.rx_moves.specs.Trying.{Next, attempt}
 use Rattle.rx_settle.specs.declared.trial.Trial.{Trial}
 use Rattle.rx_moves.proofs.OutcomeLaws.{by_said, large_outcome, refused_outcome}
@@ -134,12 +132,6 @@ module _ (old : State) (f : FormedStep) where
   unfolding Follows
   step_follows parts s (Ok o) is follows = follows parts s is
   step_follows parts s (Err e) is follows = tt
-
-  -- and asks rows under those of the goal alone
-  pub asks_alone : (parts : RuleParts) (s : Step) → formed_first parts old s ≡ Ok f →
-      asks_goal_alone f.asked ≡ true
-  unfolding formed_first
-  asks_alone parts s is = formed_alone parts (slice_get old.goals 0) old.hypotheses s f is
 
 -- ---- answers
 

@@ -5,12 +5,11 @@ ghost use Rattle.rx_inference.specs.States.{taken};
 ghost use Rattle.rx_settle.specs.Answers.{IsTrial};
 ghost use Rattle.rx_settle.specs.Certified.{asks_rows, certified};
 ghost use Rattle.rx_solve.specs.Answers.{IsSolver};
-ghost use Rattle.rx_steps.specs.Faults.{asks_goal_alone};
 ghost use Rattle.rx_moves.specs.Moves.{move_of};
 ghost use Rattle.rx_moves.specs.Outcomes.{Follows, IsOutcome};
 ghost use Rattle.rx_moves.specs.Trying.{attempt};
 
-use crate::showing::show;
+use crate::showing::show_made;
 use crate::trial::Trial;
 use rx_cert::Cert;
 use rx_fm::FmEnd;
@@ -106,7 +105,6 @@ fn show_formed<S: FnMut(&Constraint) -> Result<Option<Cert>, FmEnd>>(
     made: FormedStep,
     solve: &mut S,
 ) -> Result<Outcome, NoMemory>
-    requires alone { asks_goal_alone made.asked ≡ true }
     requires solver { IsSolver S.FnMut solve.old }
     ensures solver { IsSolver S.FnMut solve.new }
     ensures outcome { IfOk result (Follows state.now made) }
@@ -114,7 +112,7 @@ fn show_formed<S: FnMut(&Constraint) -> Result<Option<Cert>, FmEnd>>(
     let Some(goal) = state.first() else {
         return Ok(dropped(made, Outcome::Fails));
     };
-    match show(alloc, &goal.rows, &made.asked, solve) {
+    match show_made(alloc, &goal.rows, &made, solve) {
         Ok(AllShown::Shown(certs)) => Ok(Outcome::Shown { made, certs }),
         Ok(AllShown::NotShown) => Ok(dropped(made, Outcome::Fails)),
         Ok(AllShown::TooLarge) => Ok(dropped(made, Outcome::TooLarge)),

@@ -55,8 +55,8 @@ fn show_rows(
     }
 }
 
-/// The rows that a group is given: those of the goal, or of the first new goal.
-fn rows_under<'a>(old: &'a Constraint, new: &'a Constraint, under: Under) -> &'a Constraint
+/// The rows that a group is given: those of the goal, or of the first new goal. Takes no memory.
+pub fn rows_under<'a>(old: &'a Constraint, new: &'a Constraint, under: Under) -> &'a Constraint
     ensures { result.now ≡ given_to old.now new.now under }
 {
     match under {

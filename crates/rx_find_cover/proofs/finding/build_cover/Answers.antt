@@ -1,20 +1,56 @@
--- The parts are those of the set.
-use Rattle.std.proofs.Common.{◌≡◌, subst}
-use Rattle.std.specs.Prelude.{IfOk, IfSome}
-use Rattle.rx_term.specs.declared.rule_set.RuleParts.{RuleParts}
-use Rattle.rx_find_cover.specs.Answers.{IsCover, outcome}
-use Rattle.rx_find_cover.specs.Coverable.{coverage}
-use Rattle.rx_find_cover.proofs.Growing.{parts_are}
+-- One symbol more; at the end none is left.
+use Rattle.std.proofs.Common.{◌≡◌, ◌∙◌, ap, sym, subst, false, ◌||◌, List, [], ◌∷◌, ◌++◌, ◌+◌, drop, drop_of_length-le, get_or}
+use Rattle.std.specs.Prelude.{IfSome, slice_get}
+use Rattle.std.proofs.lemmas.Option.{slice_get-get_or}
+use Rattle.rx_plain.proofs.Booleans.{either_first, either_second}
+use Rattle.rx_cover.specs.Covering.{redex_shapes, symbol}
+use Rattle.rx_term.specs.declared.rule.Rule.{Rule}
+use Rattle.rx_term.specs.declared.rule_set.SymInfo.{SymInfo}
+use Rattle.rx_find_cover.specs.Answers.{AreTrees}
+use Rattle.rx_find_cover.specs.Coverable.{coverage, shapes_coverage, symbols_coverage}
+use Rattle.rx_find_cover.specs.Coverage.{noting}
+use Rattle.rx_find_cover.proofs.Growing.{Listing, all_listed, listed_next, next_symbol}
 use Rattle.rx_find_cover.proofs.finding.build_cover.Goals as goal
+use Rattle.rx_find_cover.proofs.finding.build_cover.Goals.{then-noted, else-noted}
 
-pub returns-clause-coverage : goal.returns-clause-coverage
-returns-clause-coverage g c =
-    subst (λ (parts : RuleParts). IfOk c.build_lists.result (λ b. outcome b ≡ coverage parts))
-    (parts_are c.args.parts.now c.as_slice-symbols.ensures c.as_slice-rules.ensures)
-    c.build_lists.ensures.coverage
+pub loop-sym-preserved : goal.loop-sym-preserved
+loop-sym-preserved g c =
+    let parts = c.args.parts.now in
+    let lent = c.as_slice-info-items.result.now in
+    let blank : SymInfo = record { arity = 0; frame = false; entry = false; head = false } in
+    let info : SymInfo = get_or lent c.loop-sym.sym blank in
+    let there = ap (λ (xs : List SymInfo). slice_get xs c.loop-sym.sym) (sym c.as_slice-info-items.ensures) ∙
+    slice_get-get_or lent c.loop-sym.sym blank c.loop-sym-test.true in
+    let shapes = redex_shapes (symbol c.loop-sym.sym) info.frame parts.fails in
+    let either : c.if-noted.noted ≡ (c.loop-sym.noted || c.in_ok-tried.tried.noted) =
+    elim c.if-noted.branch [
+      | then-noted w ↦ either_first c.loop-sym.noted c.in_ok-tried.tried.noted c.if-noted.noted
+          w.if-noted.true w.noted-is
+      | else-noted w ↦ either_second c.loop-sym.noted c.in_ok-tried.tried.noted c.if-noted.noted
+          w.if-noted.false w.noted-is
+    ] in
+    let coverage_is = c.in_ok-tried.ensures.coverage ∙
+    ap (λ (rules : List Rule). shapes_coverage rules [] shapes) c.as_slice-rules.ensures in
+    let trees = subst (λ (rules : List Rule).
+    IfSome c.in_ok-tried.tried.made (AreTrees rules [] shapes)) c.as_slice-rules.ensures
+    c.in_ok-tried.ensures.trees in
+    let decides = next_symbol parts c.loop-sym.sym info there c.loop-sym.noted c.in_ok-tried.tried
+    c.in-Some.trees coverage_is c.in-Some.is c.loop-sym.invariant.decides in
+    record {
+      solver = c.build_symbol.ensures.solver;
+      decides =
+          subst (λ n. noting n (symbols_coverage parts (c.loop-sym.sym + 1)
+          (drop (c.loop-sym.sym + 1) parts.symbols)) ≡ coverage parts) (sym either) decides;
+      listing =
+          listed_next parts c.loop-sym.sym info there c.loop-sym.lists c.push.new.self
+          c.in_ok-tried.tried.made c.in-Some.trees c.loop-sym.invariant.listing c.in-Some.is trees
+          (c.in_ok-push.ensures.ok ∙ ap (λ t. c.loop-sym.lists ++ t ∷ []) c.in-Some.trees-is);
+    }
 
 pub returns-clause-lists : goal.returns-clause-lists
 returns-clause-lists g c =
-    subst (λ (parts : RuleParts). IfOk c.build_lists.result (λ b. IfSome b.made (IsCover parts)))
-    (parts_are c.args.parts.now c.as_slice-symbols.ensures c.as_slice-rules.ensures)
-    c.build_lists.ensures.lists
+    let parts = c.args.parts.now in
+    all_listed parts c.loop-sym.sym c.loop-sym.lists
+    (subst (λ rs. Listing parts c.loop-sym.sym rs c.loop-sym.lists)
+    (ap (drop c.loop-sym.sym) (sym c.as_slice-info-items.ensures) ∙
+    drop_of_length-le c.as_slice-info-items.result.now c.loop-sym-test.false) c.loop-sym.invariant.listing)

@@ -1,4 +1,5 @@
--- What is left of the shapes decides, with what was noted so far; and the trees grow.
+-- What is left of the shapes decides, with what was noted so far; the path is as before, and the
+-- trees grow.
 use Rattle.std.proofs.Common.{◌≡◌, drop, map}
 use Rattle.rx_cover.specs.Covering.{symbol}
 use Rattle.rx_solve.specs.Answers.{IsSolver}
@@ -12,9 +13,10 @@ abbrev pub invariant-loop-redex : goal.invariant-loop-redex
 invariant-loop-redex g l = record {
   solver : IsSolver g.S.FnMut l.solve;
   decides :
-      noting l.noted (shapes_coverage l.rules
+      noting l.noted (shapes_coverage l.rules l.fn.path
       (map (shape_at (symbol l.sym)) (drop l.redex-index l.redexes)))
-      ≡ shapes_coverage l.rules (map (shape_at (symbol l.sym)) l.redexes);
-  growing : Growing l.rules (map (shape_at (symbol l.sym)) l.redexes)
+      ≡ shapes_coverage l.rules l.fn.path (map (shape_at (symbol l.sym)) l.redexes);
+  kept : l.path ≡ l.fn.path;
+  growing : Growing l.rules l.fn.path (map (shape_at (symbol l.sym)) l.redexes)
       (map (shape_at (symbol l.sym)) (drop l.redex-index l.redexes)) l.trees;
 }

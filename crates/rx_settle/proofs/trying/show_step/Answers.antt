@@ -1,14 +1,6 @@
 -- A formed step is shown or not.
-use Rattle.rx_settle.proofs.TryingLaws.{asks_alone, by_formed, by_large, by_refused, formed_at, step_follows}
+use Rattle.rx_settle.proofs.TryingLaws.{by_formed, by_large, by_refused, formed_at, step_follows}
 use Rattle.rx_settle.proofs.trying.show_step.Goals as goal
-
-pub show_formed-requires-clause-alone : goal.show_formed-requires-clause-alone
-show_formed-requires-clause-alone g c =
-    let of = formed_at c.args.rules.now c.args.state.now c.args.step.now c.in_ok-made.field-0 _ _
-    c.first.ensures c.hypotheses.ensures c.in_ok-made.ensures in
-    asks_alone c.args.state.now c.in-Formed.made c.args.rules.now c.args.step.now
-    (by_formed c.args.rules.now c.args.state.now c.args.step.now c.in_ok-made.field-0 of
-    c.in-Formed.made c.in-Formed.is)
 
 pub returns-in-Formed-clause-outcome : goal.returns-in-Formed-clause-outcome
 returns-in-Formed-clause-outcome g c =
