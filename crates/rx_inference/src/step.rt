@@ -88,7 +88,7 @@ pub enum Step {
         right: Term,
         /// Its rows.
         rows: Constraint,
-        /// None, since nothing is asked.
+        /// Its certificates: there are none, since nothing is asked.
         certs: Items<Cert>,
     },
     /// A row holds, in one goal, or its negation does, in the other.

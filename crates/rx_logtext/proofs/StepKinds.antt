@@ -62,7 +62,8 @@ only_simplify rest (step.Delete (Absurd cert)) e =
 only_simplify rest x e = absurd (let f : true ≡ false = ap (starts (codes "sim")) e in cc)
 
 pub simplify_kind : IsKind (codes "simplify ") (simplify_parts) simplify_of
-simplify_kind = record { text = λ parts. refl; in_range = λ parts. refl; only = λ rest x readable. only_simplify rest x }
+simplify_kind =
+    record { text = λ parts. refl; in_range = λ parts. refl; only = λ rest x readable. only_simplify rest x }
 
 -- `hyp`
 abbrev pub hyp_of : Side × (ℕ × (ℕ × (List (ℕ × Body) × List Cert))) → Step
@@ -78,7 +79,8 @@ only_hyp rest (step.Delete (Absurd cert)) e =
 only_hyp rest x e = absurd (let f : true ≡ false = ap (starts (codes "hyp")) e in cc)
 
 pub hyp_kind : IsKind (codes "hyp ") (hyp_parts) hyp_of
-hyp_kind = record { text = λ parts. refl; in_range = λ parts. refl; only = λ rest x readable. only_hyp rest x }
+hyp_kind =
+    record { text = λ parts. refl; in_range = λ parts. refl; only = λ rest x readable. only_hyp rest x }
 
 -- `expand`
 abbrev pub expand_of : Side × Bool → Step
@@ -92,7 +94,8 @@ only_expand rest (step.Delete (Absurd cert)) e =
 only_expand rest x e = absurd (let f : true ≡ false = ap (starts (codes "exp")) e in cc)
 
 pub expand_kind : IsKind (codes "expand ") (expand_parts) expand_of
-expand_kind = record { text = λ parts. refl; in_range = λ parts. refl; only = λ rest x readable. only_expand rest x }
+expand_kind =
+    record { text = λ parts. refl; in_range = λ parts. refl; only = λ rest x readable. only_expand rest x }
 
 -- `absurd`
 abbrev pub absurd_of : Cert → Step
@@ -104,7 +107,8 @@ only_absurd rest (step.Delete (Absurd cert)) e = (cert, (refl, ap (drop 7) e))
 only_absurd rest x e = absurd (let f : true ≡ false = ap (starts (codes "abs")) e in cc)
 
 pub absurd_kind : IsKind (codes "absurd ") (certificates) absurd_of
-absurd_kind = record { text = λ parts. refl; in_range = λ parts. refl; only = λ rest x readable. only_absurd rest x }
+absurd_kind =
+    record { text = λ parts. refl; in_range = λ parts. refl; only = λ rest x readable. only_absurd rest x }
 
 -- `equal`
 abbrev pub equal_of : List Cert → Step
@@ -118,7 +122,8 @@ only_equal rest (step.Delete (Absurd cert)) e =
 only_equal rest x e = absurd (let f : true ≡ false = ap (starts (codes "equ")) e in cc)
 
 pub equal_kind : IsKind (codes "equal ") (certificate_lists) equal_of
-equal_kind = record { text = λ parts. refl; in_range = λ parts. refl; only = λ rest x readable. only_equal rest x }
+equal_kind =
+    record { text = λ parts. refl; in_range = λ parts. refl; only = λ rest x readable. only_equal rest x }
 
 -- `generalise`
 abbrev pub generalise_of : Equation × (List (ℕ × Body) × List Cert) → Step
@@ -134,7 +139,8 @@ only_generalise rest (step.Delete (Absurd cert)) e =
 only_generalise rest x e = absurd (let f : true ≡ false = ap (starts (codes "gen")) e in cc)
 
 pub generalise_kind : IsKind (codes "generalise ") (generalise_parts) generalise_of
-generalise_kind = record { text = λ parts. refl; in_range = λ parts. refl; only = λ rest x readable. only_generalise rest x }
+generalise_kind =
+    record { text = λ parts. refl; in_range = λ parts. refl; only = λ rest x readable. only_generalise rest x }
 
 -- `postulate`
 abbrev pub postulate_of : Equation → Step
@@ -166,7 +172,8 @@ only_split rest (step.Delete (Absurd cert)) e =
 only_split rest x e = absurd (let f : true ≡ false = ap (starts (codes "spl")) e in cc)
 
 pub split_kind : IsKind (codes "split ") (word row_format) split_of
-split_kind = record { text = λ parts. refl; in_range = λ parts. refl; only = λ rest x readable. only_split rest x }
+split_kind =
+    record { text = λ parts. refl; in_range = λ parts. refl; only = λ rest x readable. only_split rest x }
 
 -- `decompose`
 abbrev pub decompose_of : List Cert → Step
@@ -180,7 +187,8 @@ only_decompose rest (step.Delete (Absurd cert)) e =
 only_decompose rest x e = absurd (let f : true ≡ false = ap (starts (codes "dec")) e in cc)
 
 pub decompose_kind : IsKind (codes "decompose ") (certificate_lists) decompose_of
-decompose_kind = record { text = λ parts. refl; in_range = λ parts. refl; only = λ rest x readable. only_decompose rest x }
+decompose_kind =
+    record { text = λ parts. refl; in_range = λ parts. refl; only = λ rest x readable. only_decompose rest x }
 
 -- `results`
 abbrev pub results_of : ℕ × (ℕ × List Cert) → Step
@@ -195,4 +203,5 @@ only_results rest (step.Delete (Absurd cert)) e =
 only_results rest x e = absurd (let f : true ≡ false = ap (starts (codes "res")) e in cc)
 
 pub results_kind : IsKind (codes "results ") (results_parts) results_of
-results_kind = record { text = λ parts. refl; in_range = λ parts. refl; only = λ rest x readable. only_results rest x }
+results_kind =
+    record { text = λ parts. refl; in_range = λ parts. refl; only = λ rest x readable. only_results rest x }

@@ -214,7 +214,10 @@ pub(crate) fn push_step(step: &Step, out: &mut Vec<u8>) -> Result<(), NoMemory>
             certs,
         } => push_generalise(left, right, rows, subst, certs, out),
         Step::Postulate {
-            left, right, rows, ..
+            left,
+            right,
+            rows,
+            ..
         } => push_postulate(left, right, rows, out),
         Step::Split { row } => push_split(row, out),
         Step::Decompose { certs } => push_decompose(certs, out),

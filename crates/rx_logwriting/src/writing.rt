@@ -228,8 +228,8 @@ fn push_log(log: &Log, out: &mut Vec<u8>) -> Result<(), NoMemory>
 /// The text of the log: the one that is read again as this log, and no other. TooDeep exactly where
 /// a certificate or a tree is deeper than 200; nothing deeper is walked. OutOfRange exactly where
 /// else something in the log has no text: a list of more than 4,294,967,295 things, a variable of
-/// 1,000,000 or greater, no columns or more than 15, or a rank with more or fewer polynomials than
-/// that. Terms may have as many frames as memory holds.
+/// 1,000,000 or greater, no columns or more than 15, a rank with more or fewer polynomials than
+/// that, or a postulate with a certificate. Terms may have as many frames as memory holds.
 pub fn write_log(alloc: Global, log: &Log) -> Result<Vec<u8>, LogEnd>
     ensures text { IfOk result (λ text. text.items ≡ log_text log.now) }
     ensures is_log { IfOk result (λ text. IsLog text.items log.now) }

@@ -81,7 +81,7 @@ fn ask_for(old: &Constraint, new: &Constraint, groups: &[Group], count: usize) -
 }
 
 /// Whether the rows of each group follow from those that it is given, group by group; as many
-/// certificates are given as they ask for.
+/// certificates are given as they ask for. So many rows that they can't be counted have no memory.
 fn show_in_order(
     alloc: Global,
     old: &Constraint,
