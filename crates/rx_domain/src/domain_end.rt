@@ -1,0 +1,22 @@
+//! Why domains are no domains of a rule set, or aren't kept.
+use std::alloc::{AllocError, AllocFailed};
+use thiserror::Error;
+
+/// Why domains are no domains of a rule set or aren't kept, or why that isn't known.
+#[derive(Clone, Copy, Debug, PartialEq, Eq, Error)]
+pub enum DomainEnd {
+    /// The symbol with this number has no list, or one that isn't over its arguments; at the number
+    /// of symbols: there are more lists.
+    #[error("the domain of symbol {0} is not over its arguments")]
+    BadDomain(usize),
+    /// The part with this number has no certificates or isn't shown; at the number of parts: there
+    /// are more lists.
+    #[error("part {0} is not kept")]
+    NotKept(usize),
+    /// A polynomial passes the limits at the part with this number, before anything fails there.
+    #[error("a polynomial is too large at part {0}")]
+    Large(usize),
+    /// There was no memory.
+    #[error("out of memory")]
+    NoMemory,
+}

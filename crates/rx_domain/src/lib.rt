@@ -1,0 +1,11 @@
+//! Domains of the symbols of a rule set: rows over a symbol's arguments. The rules keep them where
+//! both sides of the goal are inside, and each step from a term inside leads to one inside. Anybody
+//! can check the certificates of that, whoever wrote them.
+#![tactic(auto)]
+
+mod domain_end;
+mod domains;
+
+pub use domain_end::DomainEnd;
+pub use domains::Domains;
+pub use rx_plain::NoMemory;
