@@ -1,1 +1,3 @@
 -- Lemmas on the definitions of specs/.
+pub mod SettingLaws
+pub mod Turns

@@ -1,5 +1,5 @@
 //! Why domains are no domains of a rule set, or aren't kept.
-use std::alloc::{AllocError, AllocFailed};
+use std::alloc::AllocError;
 use thiserror::Error;
 
 /// Why domains are no domains of a rule set or aren't kept, or why that isn't known.
@@ -19,4 +19,15 @@ pub enum DomainEnd {
     /// There was no memory.
     #[error("out of memory")]
     NoMemory,
+}
+
+impl From<AllocError> for DomainEnd {
+    ghost use Rattle.std.specs.Prelude.{◌≡◌};
+    ghost use Rattle.rx_domain.specs.declared.domain_end.DomainEnd.TheVariants.{NoMemory};
+
+    ghost from_gives = { λ _ e. e ≡ NoMemory };
+
+    fn from(_e: AllocError) -> DomainEnd {
+        DomainEnd::NoMemory
+    }
 }

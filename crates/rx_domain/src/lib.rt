@@ -5,7 +5,11 @@
 
 mod domain_end;
 mod domains;
+mod keeping;
+mod setting;
 
 pub use domain_end::DomainEnd;
 pub use domains::Domains;
+pub use keeping::{keep_one, keeps};
 pub use rx_plain::NoMemory;
+pub use setting::set_domains;
