@@ -6,10 +6,12 @@
 mod domain_end;
 mod domains;
 mod keeping;
+mod laws;
 mod setting;
 
 pub use domain_end::DomainEnd;
 pub use domains::Domains;
 pub use keeping::{keep_one, keeps};
+pub use laws::{inside_rows_put_terms_inside, kept_domains_are_never_left};
 pub use rx_plain::NoMemory;
 pub use setting::set_domains;
