@@ -1,6 +1,7 @@
 -- One turn of the walk over the parts and their lists of certificates, and its end.
-use Rattle.std.proofs.Common.{◌≡◌, ◌∙◌, ap, sym, subst, refl, arith, ℕ, zero, suc, ◌+◌, ◌-◌, ◌≤◌, ◌<◌, Bool, true, Option, Some, None, Err, List, [], ◌∷◌, length, drop, slice_get}
+use Rattle.std.proofs.Common.{◌≡◌, ◌∙◌, ap, sym, subst, refl, arith, ℕ, zero, suc, ◌+◌, ◌-◌, ◌≤◌, ◌<◌, Bool, true, Option, Some, None, Err, List, [], ◌∷◌, length, drop, drop_of_length-le, slice_get}
 use Rattle.std.specs.Option.{option_map, option_map_or}
+use Rattle.std.proofs.lemmas.List.{length-map}
 use Rattle.std.proofs.lemmas.Option.{slice_get-map, slice_get_within}
 use Rattle.rx_cert.specs.Conditions.{conditions, is_shown}
 use Rattle.rx_cert.specs.Findings.{Said, Yes, No, Beyond, guard}
@@ -11,7 +12,7 @@ use Rattle.rx_term.specs.declared.rule.Rule.{Rule}
 use Rattle.rx_term.specs.declared.rule_set.RuleParts.{RuleParts}
 use Rattle.rx_term.proofs.Places.{from_end, from_nowhere, from_place}
 use Rattle.rx_domain.specs.Answers.{Tells}
-use Rattle.rx_domain.specs.Keeping.{Keeping, Keeps, Fails, KeptPart, goes_on, keeping_from, one_kept, part_finding, rule_part}
+use Rattle.rx_domain.specs.Keeping.{Keeping, Keeps, Fails, KeptPart, goes_on, keeping, keeping_from, one_kept, part_finding, parts_kept, rule_part}
 use Rattle.rx_domain.specs.declared.domain_end.DomainEnd.{DomainEnd}
 use Rattle.rx_domain.specs.declared.domain_end.DomainEnd.TheVariants.{BadDomain, NotKept, Large, NoMemory}
 
@@ -121,6 +122,17 @@ lists_end all k there = by_part (slice_get all k) refl where
   by_part None none = let no = from_end all k none in absurd (omega (arith, no, there))
   by_part (Some p) some =
       ap (λ (ps : List KeptPart). keeping_from k ps []) (from_place all k p some)
+
+-- with neither parts nor lists left, all are kept
+pub both_end : (parts : RuleParts) (goal : Equation) (lists : List (List Cert)) (k : ℕ) →
+    keeping_from k (drop k (parts_kept parts goal)) (drop k lists) ≡ keeping parts goal lists →
+    length lists ≤ k → length parts.rules < length lists → keeping parts goal lists ≡ Keeps
+both_end parts goal lists k decides end more =
+    let all = parts_kept parts goal in
+    let count = length-map parts.rules (rule_part parts) in
+    let none : drop k all ≡ [] = drop_of_length-le all (omega (arith, count, end, more)) in
+    sym decides ∙ ap (keeping_from k (drop k all)) (drop_of_length-le lists end) ∙
+    ap (λ (ps : List KeptPart). keeping_from k ps []) none
 
 -- ---- one part
 

@@ -1,6 +1,6 @@
--- Rules that keep the domains: the rows that put the goal inside follow from its own, and those that
--- put a right side inside follow from the rule's own and from the domain of its left root. Each
--- list of such rows takes one certificate for each that isn't plain.
+-- Rules that keep the domains: the rows that put the goal inside follow from its own, and those
+-- that put a right side inside follow from the rule's own and from the domain of its left root.
+-- Each list of such rows takes one certificate for each that isn't plain.
 use Rattle.std.specs.Prelude.{ℕ, ◌+◌, Some, List, [], ◌∷◌, ◌++◌, map, slice_get}
 use Rattle.std.specs.Option.{option_map_or}
 use Rattle.rx_plain.specs.Formed.{Formed}
@@ -46,7 +46,7 @@ abbrev pub part_finding : KeptPart → List Cert → Said
 part_finding p certs =
     guard p.asked.within (is_shown (conditions p.given (Some p.asked.form) certs))
 
--- no certificates show a part that isn't there
+-- the same of the part with that number; a part that isn't there is not shown
 abbrev pub one_kept : RuleParts → Equation → ℕ → List Cert → Said
 one_kept parts goal k certs =
     option_map_or (λ (p : KeptPart). part_finding p certs) (slice_get (parts_kept parts goal) k) No

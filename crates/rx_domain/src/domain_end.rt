@@ -7,10 +7,10 @@ use thiserror::Error;
 pub enum DomainEnd {
     /// The symbol with this number has no list, or one that isn't over its arguments; at the number
     /// of symbols: there are more lists.
-    #[error("the domain of symbol {0} is not over its arguments")]
+    #[error("symbol {0} has no domain over its arguments")]
     BadDomain(usize),
-    /// The part with this number has no certificates or isn't shown; at the number of parts: there
-    /// are more lists.
+    /// The part with this number has no list of certificates or isn't shown; at the number of
+    /// parts: there are more lists. Part 0 is the goal, part k + 1 is rule k.
     #[error("part {0} is not kept")]
     NotKept(usize),
     /// A polynomial passes the limits at the part with this number, before anything fails there.

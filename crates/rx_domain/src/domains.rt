@@ -8,6 +8,7 @@ use rx_row::Constraint;
 pub struct Domains {
     /// The domain of each symbol by its number: rows over its arguments v0, v1, and so on.
     pub rows: Items<Constraint>,
-    /// For the goal, and then for each rule in order, one certificate for each row that isn't plain.
+    /// For the goal, and then for each rule in order, one certificate for each row that isn't
+    /// plain.
     pub keeps: Items<Items<Cert>>,
 }

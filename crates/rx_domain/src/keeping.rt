@@ -1,7 +1,12 @@
 //! Whether a goal and rules keep the domains, part by part.
-ghost use Rattle.std.specs.Prelude.{◌≡◌, ◌++◌, IfOk, IfErr, OnOk};
+ghost use Rattle.std.specs.Prelude.{◌≡◌, ◌++◌, true, ℕ, ℤ, IfOk, IfErr, OnOk};
 ghost use Rattle.rx_cert.specs.Conditions.{conditions, is_shown};
 ghost use Rattle.rx_cert.specs.Findings.{Beyond, said};
+ghost use Rattle.rx_row.specs.Holds.{AllHold};
+ghost use Rattle.rx_rewriting.specs.Premises.{ClosedUnder};
+ghost use Rattle.rx_term.specs.Domains.{IsInside};
+ghost use Rattle.rx_term.specs.Fitting.{term_fits};
+ghost use Rattle.rx_term.specs.Meaning.{Instance, ground_at};
 ghost use Rattle.rx_domain.specs.Answers.{Tells};
 ghost use Rattle.rx_domain.specs.Keeping.{Keeps, goal_part, goes_on, keeping, one_kept, part_finding, root_domain, rule_part};
 
@@ -130,11 +135,10 @@ pub fn keep_one(
     }
 }
 
-/// Whether the goal and the rules keep the domains: the parts in order, each with its list of
-/// certificates. NotKept exactly at the first part that isn't shown or has no list, and at the
-/// number of parts where there are more lists; Large exactly at the first part that has a list and
-/// passes the limits before it fails, with none before it that fails. None of the rows of a part
-/// without a list is formed.
+/// Whether the goal and the rules keep the domains: the parts in order, as `keep_one` numbers them,
+/// each with its list of certificates. The first part that has no list, fails, or passes the limits
+/// decides: NotKept or Large with its number. NotKept with the number of parts where there are more
+/// lists. None of the rows of a part without a list is formed.
 pub fn keeps(
     alloc: Global,
     rules: &RuleSet,
@@ -142,11 +146,16 @@ pub fn keeps(
     lists: &[Items<Cert>],
 ) -> Result<(), DomainEnd>
     ensures exact { Tells (keeping rules.now goal.now lists.now) result }
+    ensures goal { OnOk result (term_fits rules.now goal.now.left ≡ true →
+        term_fits rules.now goal.now.right ≡ true → (a : ℕ → ℤ) → AllHold a goal.now.rows →
+        IsInside rules.now (ground_at a goal.now.left) ×
+        IsInside rules.now (ground_at a goal.now.right)) }
+    ensures steps { OnOk result (ClosedUnder (IsInside rules.now) (Instance rules.now.rules)) }
 {
     for (part, certs) in lists.iter().enumerate() {
         keep_one(alloc, rules, goal, part, certs.as_slice())?;
     }
-    if lists.len() <= rules.rules().len() {
+    if lists.len() <= rules.parts().rules.len() {
         return Err(DomainEnd::NotKept(lists.len()));
     }
     Ok(())
