@@ -20,7 +20,7 @@ use Rattle.rx_inference.specs.declared.step.Step.{Step}
 use Rattle.rx_inference.specs.declared.step.Step.TheVariants as step
 use Rattle.rx_settle.specs.Certified.{asks_rows, certified}
 use Rattle.rx_moves.specs.Moves.{move_of, step_of}
-use Rattle.rx_moves.proofs.AskingNothing.{after, found, kept, none_shows, tested}
+use Rattle.rx_moves.proofs.AskingNothing.{after, kept, none_shows, tested}
 use Rattle.rx_moves.proofs.MoveForms.{as_move}
 
 -- other certificates leave the move

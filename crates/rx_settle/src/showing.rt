@@ -95,6 +95,12 @@ pub(crate) fn show_made<S: FnMut(&Constraint) -> Result<Option<Cert>, FmEnd>>(
 {
     match made.goals.as_slice().first() {
         Some(goal) => show(alloc, old, &goal.rows, &made.asked, solve),
-        None => show(alloc, old, &Constraint::from_rows(Vec::new(alloc)), &made.asked, solve),
+        None => show(
+            alloc,
+            old,
+            &Constraint::from_rows(Vec::new(alloc)),
+            &made.asked,
+            solve,
+        ),
     }
 }
