@@ -16,8 +16,8 @@ ghost use Rattle.rx_term.specs.declared.term.Term.{Term};
 ghost use Rattle.rx_domain.specs.Keeping.{Keeps, keeping};
 
 /// The rows that put a fitting term inside hold exactly where its ground term meets the domains.
-/// The inner part of a term that is inside is inside, and the redexes of such terms have arguments of
-/// their domains. Where no symbol has a domain, each fitting term is inside.
+/// The inner part of a term that is inside is inside, and the redexes of such terms have arguments
+/// of their domains. Where no symbol has a domain, each fitting term is inside.
 pub fn inside_rows_put_terms_inside()
     ensures rows { (parts : RuleParts) → are_domains parts.symbols parts.domains ≡ true →
         (a : ℕ → ℤ) (t : Term) → term_fits parts t ≡ true →

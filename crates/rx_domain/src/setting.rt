@@ -61,9 +61,9 @@ fn with_domains(parts: RuleParts, domains: Items<Constraint>) -> RuleParts
 }
 
 /// The same symbols and rules with these domains, one list of rows for each symbol in order, over
-/// the symbol's arguments v0, v1, and so on. BadDomain with the first symbol without a list or whose
-/// list uses another variable than its arguments, and with the number of symbols where there are
-/// more lists. The rules are copied. Fails else only when out of memory.
+/// the symbol's arguments v0, v1, and so on. BadDomain with the first symbol without a list or
+/// whose list uses another variable than its arguments, and with the number of symbols where there
+/// are more lists. The rules are copied. Fails else only when out of memory.
 pub fn set_domains(
     alloc: Global,
     rules: &RuleSet,
