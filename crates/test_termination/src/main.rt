@@ -1,4 +1,4 @@
-//! Compares what the crates on covers, ranks and pairs answer, and what the calls say that examine the
+//! Compares what the crates on domains, covers, ranks and pairs answer, and what the calls say that examine the
 //! covers and the pairs of a log, with values from outside.
 //!
 //! Each line of the standard input is a call, what it is given, and what it is to answer, with ` | `
@@ -7,11 +7,12 @@
 //! `unread`, and at the end how many lines hold.
 //!
 //! Equations, polynomials and cover trees have the notation of a log; a list is its number of
-//! elements and then each. A line `set` makes a rule set; the lines after it that begin with `covers`
-//! and `decreases` speak of that.
+//! elements and then each. A line `set` makes a rule set, and `domains` gives it these; the lines
+//! after it that begin with `covers`, `decreases`, `inside`, `keep` and `keeps` speak of that.
 #![tactic(auto)]
 
 mod cover_calls;
+mod domain_calls;
 mod example;
 mod log_calls;
 mod log_parts;
@@ -21,6 +22,7 @@ mod pair_calls;
 mod rank_calls;
 mod reading;
 
+use domain_calls::take_domains;
 use rx_term::RuleSet;
 use std::alloc::Global;
 use std::io;
@@ -41,6 +43,9 @@ fn holds(alloc: Global, set: &mut Option<RuleSet>, line: &str) -> Option<bool> {
     let case = case_of(line, separator_of(line))?;
     if case.call == "set" {
         return take_set(alloc, set, case.given, case.wanted);
+    }
+    if case.call == "domains" {
+        return take_domains(alloc, set, case.given, case.wanted);
     }
     let found = answer_to(alloc, set, case.call, case.given)?;
     found.is_meant(alloc, case.wanted)
