@@ -1,5 +1,5 @@
 -- What the words of a command line ask for.
-use Rattle.std.specs.Prelude.{ℕ, Bool, true, ◌&&◌, if◌then◌else◌, nat_le, Option, Some, None, is_none, List, [], ◌∷◌, length, codes, option_map}
+use Rattle.std.specs.Prelude.{ℕ, Bool, true, false, ◌&&◌, if◌then◌else◌, nat_le, Option, Some, None, is_none, List, [], ◌∷◌, length, codes, option_map}
 use Rattle.std.specs.Borrow.{Bor}
 use Rattle.std.specs.Str.{bytes_eq}
 use Rattle.clap.specs.Kinds.{Kinds}
@@ -13,6 +13,8 @@ use Rattle.rx_command.specs.declared.command.Command.TheVariants as variant
 use Rattle.rx_command.specs.declared.command.Effort.{Effort}
 use Rattle.rx_command.specs.declared.command.Extent.{Extent}
 use Rattle.rx_command.specs.declared.command.Functions as code_functions
+use Rattle.rx_command.specs.declared.command.Induction as code_induction
+use Rattle.rx_command.specs.declared.command.Induction.TheVariants as task
 
 -- two functions of a file, and a precondition on their arguments
 pub record Functions : Type 0 where
@@ -28,9 +30,17 @@ pub data Comparison : Type 0 where
   Check : Functions → List ℕ → Comparison
   Refute : Functions → Extent → Comparison
 
--- to compare two functions, or to search for proofs of n examples
+-- to search for a proof of the equation of a rule text, or to replay the proof in a log
+pub data Induction : Type 0 where
+  Find : List ℕ → Effort → Induction
+  Replay : List ℕ → List ℕ → Induction
+
+-- to compare two functions, to prove the equation of a rule text, to write the rule text of two
+-- functions, or to search for proofs of n examples
 pub data Command : Type 0 where
   Compare : Comparison → Command
+  Rules : Induction → Command
+  Translate : Functions → Command
   Demo : ℕ → Command
 
 -- ---- what the words give
@@ -116,6 +126,19 @@ refute_of (Some functions) None log = None
 refute_of (Some functions) (Some extent) None = Some (Compare (Refute functions extent))
 refute_of (Some functions) (Some extent) (Some log) = None
 
+-- `rules` takes a log in the place of a function, and then neither depth nor budget
+abbrev pub rules_of : Option (List ℕ) → Option (List ℕ) → Bool → Option Effort → Option Command
+rules_of None log alone effort = None
+rules_of (Some file) None alone effort = option_map (λ e. Rules (Find file e)) effort
+rules_of (Some file) (Some log) true effort = Some (Rules (Replay file log))
+rules_of (Some file) (Some log) false effort = None
+
+-- `translate` takes no log
+abbrev pub translate_of : Option Functions → Option (List ℕ) → Option Command
+translate_of None log = None
+translate_of (Some functions) None = Some (Translate functions)
+translate_of (Some functions) (Some log) = None
+
 -- `demo` takes the number of examples in the place of the file, 1 to 100
 abbrev pub demo_of : Option (List ℕ) → Option Command
 demo_of None = None
@@ -139,10 +162,32 @@ has_no_effort rows = is_absent (codes "depth") rows && is_absent (codes "budget"
 abbrev pub has_no_extent : List Row → Bool
 has_no_extent rows = is_absent (codes "box") rows && is_absent (codes "rounds") rows
 
-abbrev pub has_no_options : List Row → Bool
-has_no_options rows = is_absent (codes "pre") rows && (has_no_effort rows && has_no_extent rows)
+-- neither of these four
+abbrev pub has_no_numbers : List Row → Bool
+has_no_numbers rows = has_no_effort rows && has_no_extent rows
 
--- a depth and a budget are of `prove` alone, a box and rounds of `refute` alone
+abbrev pub has_no_options : List Row → Bool
+has_no_options rows = is_absent (codes "pre") rows && has_no_numbers rows
+
+-- no second function, no further log, no precondition, and neither a box nor rounds
+abbrev pub has_rules_alone : List Row → Bool
+has_rules_alone rows =
+    is_absent (codes "second") rows && (is_absent (codes "log") rows &&
+    (is_absent (codes "pre") rows && has_no_extent rows))
+
+-- the modes that compare nothing
+abbrev pub after_comparisons : List ℕ → List Row → Option Command
+after_comparisons mode rows =
+    if bytes_eq mode (codes "rules") && has_rules_alone rows
+    then rules_of (first_of (codes "file") rows) (first_of (codes "first") rows)
+    (has_no_effort rows) (effort_of rows)
+    else (if bytes_eq mode (codes "translate") && has_no_numbers rows
+    then translate_of (functions_of rows) (first_of (codes "log") rows)
+    else (if bytes_eq mode (codes "demo") && (has_no_more_words rows && has_no_options rows)
+    then demo_of (first_of (codes "file") rows)
+    else None))
+
+-- a depth and a budget are of `prove` and `rules` alone, a box and rounds of `refute` alone
 abbrev pub in_mode : Option (List ℕ) → List Row → Option Command
 in_mode None rows = None
 in_mode (Some mode) rows =
@@ -153,9 +198,7 @@ in_mode (Some mode) rows =
     (first_of (codes "budget") rows)
     else (if bytes_eq mode (codes "refute") && has_no_effort rows
     then refute_of (functions_of rows) (extent_of rows) (first_of (codes "log") rows)
-    else (if bytes_eq mode (codes "demo") && (has_no_more_words rows && has_no_options rows)
-    then demo_of (first_of (codes "file") rows)
-    else None)))
+    else after_comparisons mode rows))
 
 abbrev pub command_in : List Row → Option Command
 command_in rows = in_mode (first_of (codes "mode") rows) rows
@@ -188,6 +231,12 @@ comparison_view (case.Prove functions effort) = Prove (functions_view functions)
 comparison_view (case.Check functions log) = Check (functions_view functions) log.now
 comparison_view (case.Refute functions extent) = Refute (functions_view functions) extent
 
+abbrev pub induction_view : code_induction.Induction → Induction
+induction_view (task.Find file effort) = Find file.now effort
+induction_view (task.Replay file log) = Replay file.now log.now
+
 abbrev pub command_view : code.Command → Command
 command_view (variant.Compare comparison) = Compare (comparison_view comparison)
+command_view (variant.Rules induction) = Rules (induction_view induction)
+command_view (variant.Translate functions) = Translate (functions_view functions)
 command_view (variant.Demo count) = Demo count

@@ -1,6 +1,6 @@
 -- Some command lines, and what they ask for.
 use Rattle.std.specs.Prelude.{ℕ, Some, None, List, [], ◌∷◌, ◌++◌, codes}
-use Rattle.rx_command.specs.Commands.{Command, Functions, Compare, Prove, Check, Refute}
+use Rattle.rx_command.specs.Commands.{Command, Functions, Compare, Prove, Check, Refute, Rules, Find, Replay, Translate}
 
 abbrev pub no_words : List (List ℕ)
 no_words = []
@@ -84,6 +84,54 @@ large_box_words = refute_words ++ codes "--box" ∷ codes "1001" ∷ []
 -- ctrl refute f.c up rec --rounds 0
 abbrev pub no_rounds_words : List (List ℕ)
 no_rounds_words = refute_words ++ codes "--rounds" ∷ codes "0" ∷ []
+
+-- ctrl rules f.rules
+abbrev pub rules_words : List (List ℕ)
+rules_words = codes "ctrl" ∷ codes "rules" ∷ codes "f.rules" ∷ []
+
+abbrev pub rules_usual : Command
+rules_usual = Rules (Find (codes "f.rules") (record { depth = 5; budget = 100000 }))
+
+-- ctrl rules f.rules --depth 7
+abbrev pub deep_rules_words : List (List ℕ)
+deep_rules_words = rules_words ++ codes "--depth" ∷ codes "7" ∷ []
+
+abbrev pub rules_deep : Command
+rules_deep = Rules (Find (codes "f.rules") (record { depth = 7; budget = 100000 }))
+
+-- ctrl rules f.rules f.log
+abbrev pub replay_words : List (List ℕ)
+replay_words = rules_words ++ codes "f.log" ∷ []
+
+abbrev pub rules_log : Command
+rules_log = Rules (Replay (codes "f.rules") (codes "f.log"))
+
+-- ctrl rules f.rules f.log --depth 7
+abbrev pub deep_replay_words : List (List ℕ)
+deep_replay_words = replay_words ++ codes "--depth" ∷ codes "7" ∷ []
+
+-- ctrl rules f.rules f.log g.log
+abbrev pub two_logs_words : List (List ℕ)
+two_logs_words = replay_words ++ codes "g.log" ∷ []
+
+-- ctrl rules f.rules --pre n>=0
+abbrev pub pre_rules_words : List (List ℕ)
+pre_rules_words = rules_words ++ codes "--pre" ∷ codes "n>=0" ∷ []
+
+-- ctrl translate f.c up rec
+abbrev pub translate_words : List (List ℕ)
+translate_words = codes "ctrl" ∷ codes "translate" ∷ codes "f.c" ∷ codes "up" ∷ codes "rec" ∷ []
+
+abbrev pub translate_both : Command
+translate_both = Translate up_and_rec
+
+-- ctrl translate f.c up rec f.log
+abbrev pub log_translate_words : List (List ℕ)
+log_translate_words = translate_words ++ codes "f.log" ∷ []
+
+-- ctrl translate f.c up rec --depth 5
+abbrev pub deep_translate_words : List (List ℕ)
+deep_translate_words = translate_words ++ codes "--depth" ∷ codes "5" ∷ []
 
 -- ctrl demo 100
 abbrev pub demo_words : List (List ℕ)

@@ -53,11 +53,24 @@ pub enum Comparison<'a> {
     Refute(Functions<'a>, Extent),
 }
 
+/// How the equation of the rule text in the file with this name is proved.
+#[derive(Clone, Copy)]
+pub enum Induction<'a> {
+    /// By a search for a proof.
+    Find(&'a str, Effort),
+    /// By a replay of the proof in the log with this other name.
+    Replay(&'a str, &'a str),
+}
+
 /// What a command line asks for.
 #[derive(Clone, Copy)]
 pub enum Command<'a> {
     /// To compare two functions.
     Compare(Comparison<'a>),
+    /// To prove the equation of a rule text.
+    Rules(Induction<'a>),
+    /// To write the rules of two functions as a rule text.
+    Translate(Functions<'a>),
     /// To search for proofs of this many examples, 1 to 100.
     Demo(u32),
 }
@@ -220,11 +233,68 @@ fn has_no_extent(matches: &ArgMatches<'_>) -> bool
     is_absent(matches, "box") && is_absent(matches, "rounds")
 }
 
+/// Whether no number is given.
+fn has_no_numbers(matches: &ArgMatches<'_>) -> bool
+    ensures { result ≡ spec.has_no_numbers (rows_of (found_of matches.now)) }
+{
+    has_no_effort(matches) && has_no_extent(matches)
+}
+
 /// Whether no option is given.
 fn has_no_options(matches: &ArgMatches<'_>) -> bool
     ensures { result ≡ spec.has_no_options (rows_of (found_of matches.now)) }
 {
-    is_absent(matches, "pre") && has_no_effort(matches) && has_no_extent(matches)
+    is_absent(matches, "pre") && has_no_numbers(matches)
+}
+
+/// Whether there is no second function, no further log, no precondition, and neither a box nor
+/// rounds.
+fn has_rules_alone(matches: &ArgMatches<'_>) -> bool
+    ensures { result ≡ spec.has_rules_alone (rows_of (found_of matches.now)) }
+{
+    is_absent(matches, "second")
+        && is_absent(matches, "log")
+        && is_absent(matches, "pre")
+        && has_no_extent(matches)
+}
+
+/// The equation of a rule text is proved: by a search, or by a replay where a log is given, and
+/// neither depth nor budget.
+fn rules_of<'a>(
+    file: Option<&'a str>,
+    log: Option<&'a str>,
+    alone: bool,
+    effort: Option<Effort>,
+) -> Option<Command<'a>>
+    ensures { option_map command_view result ≡
+        spec.rules_of (bytes_of file.entry) (bytes_of log.entry) alone effort }
+{
+    let file = file?;
+    match log {
+        None => Some(Command::Rules(Induction::Find(file, effort?))),
+        Some(log) => {
+            if alone {
+                Some(Command::Rules(Induction::Replay(file, log)))
+            } else {
+                None
+            }
+        }
+    }
+}
+
+/// The rules of two functions are written, where no log is given.
+fn translate_of<'a>(
+    functions: Option<Functions<'a>>,
+    log: Option<&'a str>,
+) -> Option<Command<'a>>
+    ensures { option_map command_view result ≡
+        spec.translate_of (option_map functions_view functions.entry) (bytes_of log.entry) }
+{
+    let functions = functions?;
+    match log {
+        Some(_) => None,
+        None => Some(Command::Translate(functions)),
+    }
 }
 
 /// Examples are shown, where their number is given.
@@ -232,6 +302,24 @@ fn demo_of<'a>(count: Option<&str>) -> Option<Command<'a>>
     ensures { option_map command_view result ≡ spec.demo_of (bytes_of count.entry) }
 {
     Some(Command::Demo(number_of(1, 100, count?)?))
+}
+
+/// What is asked for in a mode that compares nothing.
+fn after_comparisons<'a>(mode: &str, matches: &ArgMatches<'a>) -> Option<Command<'a>>
+    ensures { option_map command_view result ≡
+        spec.after_comparisons mode.now (rows_of (found_of matches.now)) }
+{
+    if mode == "rules" && has_rules_alone(matches) {
+        let file = given(matches, "file");
+        let log = given(matches, "first");
+        rules_of(file, log, has_no_effort(matches), effort_of(matches))
+    } else if mode == "translate" && has_no_numbers(matches) {
+        translate_of(functions_of(matches), given(matches, "log"))
+    } else if mode == "demo" && has_no_more_words(matches) && has_no_options(matches) {
+        demo_of(given(matches, "file"))
+    } else {
+        None
+    }
 }
 
 /// What is asked for in a mode.
@@ -249,10 +337,8 @@ fn in_mode<'a>(mode: &str, matches: &ArgMatches<'a>) -> Option<Command<'a>>
     } else if mode == "refute" && has_no_effort(matches) {
         let log = given(matches, "log");
         refute_of(functions_of(matches), extent_of(matches), log)
-    } else if mode == "demo" && has_no_more_words(matches) && has_no_options(matches) {
-        demo_of(given(matches, "file"))
     } else {
-        None
+        after_comparisons(mode, matches)
     }
 }
 

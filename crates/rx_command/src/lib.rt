@@ -7,6 +7,6 @@ mod laws;
 mod numbers;
 
 pub use app::command_app;
-pub use command::{Command, Comparison, Effort, Extent, Functions, command_of};
+pub use command::{Command, Comparison, Effort, Extent, Functions, Induction, command_of};
 pub use laws::command_lines_ask;
 pub use rx_plain::NoMemory;

@@ -5,7 +5,7 @@ use Rattle.rx_check.specs.declared.check_end.CheckEnd.TheVariants as End
 use Rattle.c_refute.specs.declared.findings.Compared.{Compared}
 use Rattle.c_refute.specs.declared.findings.Compared.TheVariants as found
 use Rattle.rx_report.specs.declared.answer.Answer.{Answer}
-use Rattle.rx_report.specs.declared.answer.Answer.TheVariants.{Line, Proof, Found}
+use Rattle.rx_report.specs.declared.answer.Answer.TheVariants.{Line, Proof, RuleText, Found}
 use Rattle.rx_report.specs.declared.ends.Status.{Status}
 use Rattle.rx_report.specs.declared.ends.Status.TheVariants as Ends
 use Rattle.rx_report.specs.declared.verdicts.Verdict.{Verdict}
@@ -52,11 +52,16 @@ status_of (Said.PreName token) = Ends.Refused
 status_of (Said.Box count) = Ends.Refused
 status_of (Said.Line number) = Ends.Refused
 status_of (Said.Check end) = check_status end
+status_of (Said.RuleLine number) = Ends.Refused
+status_of (Said.NotMade rule) = Ends.Refused
+status_of Said.NoCover = Ends.Unknown
+status_of Said.Inductive = Ends.Equivalent
 status_of Said.Usage = Ends.Usage
 status_of Said.ReadFault = Ends.ReadFault
 status_of Said.LargeTranslate = Ends.Large
 status_of Said.LargePre = Ends.Large
 status_of Said.LargeSearch = Ends.Large
+status_of Said.LargeRules = Ends.Large
 
 -- how a run ends that has compared two functions over points
 abbrev pub found_status : Compared → Status
@@ -67,4 +72,5 @@ found_status (found.Alike points undecided) = Ends.Unknown
 abbrev pub status_in : Answer → Status
 status_in (Line verdict) = status_of verdict
 status_in (Proof text) = Ends.Equivalent
+status_in (RuleText text) = Ends.Equivalent
 status_in (Found found) = found_status found

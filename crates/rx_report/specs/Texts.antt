@@ -194,11 +194,16 @@ text_of (Said.PreName token) = place_line (codes "pre unknown-name") token
 text_of (Said.Box count) = numbered_line (codes "REFUSED box ") count
 text_of (Said.Line number) = numbered_line (codes "REFUSED line ") number
 text_of (Said.Check end) = check_line end
+text_of (Said.RuleLine number) = numbered_line (codes "REFUSED rule-line ") number
+text_of (Said.NotMade rule) = numbered_line (codes "REFUSED not-made ") rule
+text_of Said.NoCover = codes "UNKNOWN cover\n"
+text_of Said.Inductive = codes "INDUCTIVE\n"
 text_of Said.Usage = usage_line
 text_of Said.ReadFault = codes "READ FAULT\n"
 text_of Said.LargeTranslate = codes "LARGE translate\n"
 text_of Said.LargePre = codes "LARGE pre\n"
 text_of Said.LargeSearch = codes "LARGE search\n"
+text_of Said.LargeRules = codes "LARGE rules\n"
 
 -- an end of a replay that has a line: it isn't out of memory, and a step that passes the limits
 -- isn't a step that doesn't apply

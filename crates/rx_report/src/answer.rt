@@ -17,6 +17,8 @@ pub enum Answer {
     Line(Verdict),
     /// The text of the log of a proof.
     Proof(Items<u8>),
+    /// The rules of two functions as a rule text.
+    RuleText(Items<u8>),
     /// How two functions compare over points.
     Found(Compared),
 }
@@ -38,7 +40,7 @@ impl Answer {
     {
         match self {
             Answer::Line(verdict) => verdict.status(),
-            Answer::Proof(_) => Status::Equivalent,
+            Answer::Proof(_) | Answer::RuleText(_) => Status::Equivalent,
             Answer::Found(found) => found_status(found),
         }
     }
@@ -50,7 +52,7 @@ impl Answer {
     {
         match self {
             Answer::Line(verdict) => report(alloc, &verdict),
-            Answer::Proof(text) => Ok(text.into_vec()),
+            Answer::Proof(text) | Answer::RuleText(text) => Ok(text.into_vec()),
             Answer::Found(found) => found_line(alloc, &found),
         }
     }

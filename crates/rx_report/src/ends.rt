@@ -4,9 +4,10 @@ ghost use Rattle.std.specs.Prelude.{◌≡◌};
 /// How a run ends, as the program's exit status says it.
 #[derive(Clone, Copy, Debug, PartialEq, Eq)]
 pub enum Status {
-    /// The two functions compute the same.
+    /// What the words ask about holds: the two functions compute the same, the equation of the
+    /// rule text is proved, or the rules of the two functions have the text that is written.
     Equivalent,
-    /// Whether they do was not found out.
+    /// Whether it holds was not found out.
     Unknown,
     /// The input was refused; the report says why.
     Refused,

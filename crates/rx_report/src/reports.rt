@@ -67,11 +67,16 @@ fn line(alloc: Global, verdict: &Verdict) -> Result<String, AllocError>
         Verdict::Box(count) => numbered_line(alloc, "REFUSED box ", *count),
         Verdict::Line(number) => numbered_line(alloc, "REFUSED line ", *number),
         Verdict::Check(end) => check_line(alloc, *end),
+        Verdict::RuleLine(number) => numbered_line(alloc, "REFUSED rule-line ", *number),
+        Verdict::NotMade(rule) => numbered_line(alloc, "REFUSED not-made ", *rule),
+        Verdict::NoCover => String::from_str(alloc, "UNKNOWN cover\n"),
+        Verdict::Inductive => String::from_str(alloc, "INDUCTIVE\n"),
         Verdict::Usage => String::from_str(alloc, USAGE),
         Verdict::ReadFault => String::from_str(alloc, "READ FAULT\n"),
         Verdict::LargeTranslate => String::from_str(alloc, "LARGE translate\n"),
         Verdict::LargePre => String::from_str(alloc, "LARGE pre\n"),
         Verdict::LargeSearch => String::from_str(alloc, "LARGE search\n"),
+        Verdict::LargeRules => String::from_str(alloc, "LARGE rules\n"),
     }
 }
 

@@ -49,6 +49,16 @@ pub enum Verdict {
     Line(usize),
     /// The log isn't accepted.
     Check(CheckEnd),
+    /// The line of the rule text with this number, counted from 1, is the first with which no rule
+    /// text begins.
+    RuleLine(usize),
+    /// The rule of the rule text with this number, counted from 0, is the first that isn't well
+    /// made; the number of rules stands for an equation that doesn't fit.
+    NotMade(usize),
+    /// Trees are not found that show that some rule applies at each redex.
+    NoCover,
+    /// A log was accepted for the equation of a rule text.
+    Inductive,
     /// The words ask for nothing that the program does.
     Usage,
     /// A file could not be read.
@@ -59,6 +69,8 @@ pub enum Verdict {
     LargePre,
     /// No proof is found, and what is formed in the search passes the limits.
     LargeSearch,
+    /// The rules of both functions pass the limits of rule texts.
+    LargeRules,
 }
 
 /// How a run ends whose log isn't accepted for this.
@@ -90,8 +102,10 @@ impl Verdict {
         ensures { result ≡ status_of self.now }
     {
         match self {
-            Verdict::Equivalent => Status::Equivalent,
-            Verdict::NoRanks | Verdict::Depth(_) | Verdict::Visits(_) => Status::Unknown,
+            Verdict::Equivalent | Verdict::Inductive => Status::Equivalent,
+            Verdict::NoRanks | Verdict::Depth(_) | Verdict::Visits(_) | Verdict::NoCover => {
+                Status::Unknown
+            }
             Verdict::Demo(pairs, equivalent) => demo_status(*pairs, *equivalent),
             Verdict::LongSource
             | Verdict::LongLog
@@ -104,11 +118,16 @@ impl Verdict {
             | Verdict::PreParse(_)
             | Verdict::PreName(_)
             | Verdict::Box(_)
-            | Verdict::Line(_) => Status::Refused,
+            | Verdict::Line(_)
+            | Verdict::RuleLine(_)
+            | Verdict::NotMade(_) => Status::Refused,
             Verdict::Check(end) => check_status(end),
             Verdict::Usage => Status::Usage,
             Verdict::ReadFault => Status::ReadFault,
-            Verdict::LargeTranslate | Verdict::LargePre | Verdict::LargeSearch => Status::Large,
+            Verdict::LargeTranslate
+            | Verdict::LargePre
+            | Verdict::LargeSearch
+            | Verdict::LargeRules => Status::Large,
         }
     }
 }

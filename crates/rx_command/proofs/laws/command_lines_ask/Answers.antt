@@ -73,3 +73,39 @@ returns-clause-too_large c = refl
 pub returns-clause-no_rounds : goal.returns-clause-no_rounds
 unfolding clap_on_literals
 returns-clause-no_rounds c = refl
+
+pub returns-clause-rules : goal.returns-clause-rules
+unfolding clap_on_literals
+returns-clause-rules c = refl
+
+pub returns-clause-deep_rules : goal.returns-clause-deep_rules
+unfolding clap_on_literals
+returns-clause-deep_rules c = refl
+
+pub returns-clause-rules_log : goal.returns-clause-rules_log
+unfolding clap_on_literals
+returns-clause-rules_log c = refl
+
+pub returns-clause-deep_replay : goal.returns-clause-deep_replay
+unfolding clap_on_literals
+returns-clause-deep_replay c = refl
+
+pub returns-clause-two_logs : goal.returns-clause-two_logs
+unfolding clap_on_literals
+returns-clause-two_logs c = refl
+
+pub returns-clause-pre_rules : goal.returns-clause-pre_rules
+unfolding clap_on_literals
+returns-clause-pre_rules c = refl
+
+pub returns-clause-translate : goal.returns-clause-translate
+unfolding clap_on_literals
+returns-clause-translate c = refl
+
+pub returns-clause-log_translate : goal.returns-clause-log_translate
+unfolding clap_on_literals
+returns-clause-log_translate c = refl
+
+pub returns-clause-deep_translate : goal.returns-clause-deep_translate
+unfolding clap_on_literals
+returns-clause-deep_translate c = refl
