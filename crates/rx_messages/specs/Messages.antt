@@ -15,7 +15,7 @@ use Rattle.rx_messages.specs.declared.faults.Place.{Place}
 use Rattle.rx_messages.specs.Asked.{Asked, call, condition_of, file_name, file_of}
 use Rattle.rx_messages.specs.Faults.{is_about_pre, place_of, spot_at}
 use Rattle.rx_messages.specs.Logs.{Facts, log_text, number_text}
-use Rattle.rx_messages.specs.Remarks.{is_about_log, mode_after, tries_of, words_of}
+use Rattle.rx_messages.specs.Remarks.{is_about_log, mode_after, rule_line_of, tries_of, words_of}
 
 -- ---- parts
 
@@ -75,11 +75,11 @@ abbrev pub thing_of : Asked → Verdict → List ℕ
 thing_of asked (Said.NoFunction name) = missing_name name asked.functions
 thing_of asked verdict = []
 
--- the name, with the line of the log
+-- the name, with the line of the log or of the rule text
 abbrev pub remark_name : Asked → Verdict → Facts → List ℕ
 remark_name asked verdict facts =
     if is_about_log verdict then file_name asked.log ++ number_text facts.number
-    else subject_name asked verdict
+    else subject_name asked verdict ++ number_text (rule_line_of verdict)
 
 -- a line of advice: a call, and more
 abbrev pub advice_line : List ℕ → List ℕ → List ℕ
@@ -112,7 +112,9 @@ usage =
     ++ (codes "  a proof:          ctrl prove examples/sum.c up rec\n"
     ++ (codes "  a replay:         ctrl check examples/sum.c up rec examples/sum.log\n"
     ++ (codes "  a counterexample: ctrl refute examples/twice.c twice same\n"
-    ++ codes "  some examples:    ctrl demo 10\n")))
+    ++ (codes "  written rules:    ctrl rules examples/sum.rules\n"
+    ++ (codes "  rules of C:       ctrl translate examples/sum.c up rec\n"
+    ++ codes "  some examples:    ctrl demo 10\n")))))
 
 -- ---- reports that are no line of a verdict
 

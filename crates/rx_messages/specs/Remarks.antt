@@ -37,6 +37,11 @@ is_about_log (Said.Line number) = true
 is_about_log (Said.Check end) = true
 is_about_log verdict = false
 
+-- the line of the rule text that it is about
+abbrev pub rule_line_of : Verdict → Option ℕ
+rule_line_of (Said.RuleLine number) = Some number
+rule_line_of verdict = None
+
 -- ---- all reports
 
 -- what a report says, behind the word that it is about
@@ -61,11 +66,17 @@ words_of (Said.PreName token) = codes " is no parameter of the first function"
 words_of (Said.Box count) = codes "there are more than 1000000 points"
 words_of (Said.Line number) = codes "no log goes on like this"
 words_of (Said.Check end) = words_of_check end
+words_of (Said.RuleLine number) = codes "no rule text goes on like this"
+words_of (Said.NotMade rule) =
+    codes "the rule with this number isn't well made, or the equation behind all rules doesn't fit"
+words_of Said.NoCover = codes "no trees are found that show that some rule applies everywhere"
+words_of Said.Inductive = []
 words_of Said.Usage = codes "the words ask for nothing that ctrl does"
 words_of Said.ReadFault = codes "the file can't be read, or the log can't"
 words_of Said.LargeTranslate = codes "a polynomial of the functions passes the limits"
 words_of Said.LargePre = codes "a polynomial of the precondition passes the limits"
 words_of Said.LargeSearch = codes "a polynomial that the search forms passes the limits"
+words_of Said.LargeRules = codes "the rules of the functions pass the limits of rule texts"
 
 -- the log that isn't accepted may be mended
 abbrev pub tries_after_check : CheckEnd → Option (List ℕ)
@@ -97,10 +108,14 @@ tries_of (Said.PreParse Flaw.NotARowForm) =
 tries_of (Said.Box count) = Some (codes "a smaller --box")
 tries_of (Said.Line number) = Some (codes "docs/LOG-FORMAT.md, which says what each line is")
 tries_of (Said.Check end) = tries_after_check end
+tries_of (Said.RuleLine number) = Some (codes "docs/RULE-TEXT.md, which says what each line is")
+tries_of (Said.NotMade rule) = Some (codes "docs/RULE-TEXT.md, which says what is well made")
+tries_of Said.NoCover = Some (codes "rules for the arguments and results that are left out")
 tries_of Said.ReadFault = Some (codes "the names of the files, and whether they may be read")
 tries_of Said.LargeTranslate = Some (codes "to compare smaller parts")
 tries_of Said.LargePre = Some (codes "to compare smaller parts")
 tries_of Said.LargeSearch = Some (codes "to compare smaller parts")
+tries_of Said.LargeRules = Some (codes "to translate smaller parts")
 tries_of verdict = None
 
 -- the mode in which the functions may be compared instead

@@ -1,19 +1,21 @@
 //! What the words of a command line name, as messages name it.
 ghost use Rattle.std.specs.Prelude.{◌≡◌, ◌++◌, option_map, OnOk};
-ghost use Rattle.rx_command.specs.Commands.{bytes_of, command_view, comparison_view, functions_view};
+ghost use Rattle.rx_command.specs.Commands.{bytes_of, command_view, comparison_view, functions_view, induction_view};
 ghost use Rattle.rx_messages.specs.Asked as spec;
 ghost use Rattle.rx_messages.specs.Asked.{asked_view};
 
-use rx_command::{Command, Comparison, Functions};
+use rx_command::{Command, Comparison, Functions, Induction};
 use rx_places::{NoMemory, push_name, push_word};
 
-/// What is compared, and the name of the log that is replayed, if there is one.
+/// Two functions, the name of the log that is replayed, and that of a rule text, if there are any.
 #[derive(Clone, Copy)]
 pub(crate) struct Asked<'a> {
     /// The two functions.
     pub functions: Option<Functions<'a>>,
     /// The log's name.
     pub log: Option<&'a str>,
+    /// The name of the rule text.
+    pub rules: Option<&'a str>,
 }
 
 fn asked_in<'a>(comparison: &Comparison<'a>) -> Asked<'a>
@@ -23,10 +25,29 @@ fn asked_in<'a>(comparison: &Comparison<'a>) -> Asked<'a>
         Comparison::Prove(functions, _) | Comparison::Refute(functions, _) => Asked {
             functions: Some(*functions),
             log: None,
+            rules: None,
         },
         Comparison::Check(functions, log) => Asked {
             functions: Some(*functions),
             log: Some(*log),
+            rules: None,
+        },
+    }
+}
+
+fn asked_for<'a>(task: &Induction<'a>) -> Asked<'a>
+    ensures { asked_view result ≡ spec.asked_for (induction_view task.now) }
+{
+    match task {
+        Induction::Find(file, _) => Asked {
+            functions: None,
+            log: None,
+            rules: Some(*file),
+        },
+        Induction::Replay(file, log) => Asked {
+            functions: None,
+            log: Some(*log),
+            rules: Some(*file),
         },
     }
 }
@@ -37,20 +58,27 @@ pub(crate) fn asked_of<'a>(command: &Option<Command<'a>>) -> Asked<'a>
 {
     match command {
         Some(Command::Compare(comparison)) => asked_in(comparison),
+        Some(Command::Rules(task)) => asked_for(task),
+        Some(Command::Translate(functions)) => Asked {
+            functions: Some(*functions),
+            log: None,
+            rules: None,
+        },
         Some(Command::Demo(_)) | None => Asked {
             functions: None,
             log: None,
+            rules: None,
         },
     }
 }
 
-/// The name of the file that has the functions.
+/// The name of the file that has the functions, or else of the rule text.
 pub(crate) fn file_of<'a>(asked: &Asked<'a>) -> Option<&'a str>
     ensures { bytes_of result ≡ spec.file_of (asked_view asked.now) }
 {
     match &asked.functions {
         Some(functions) => Some(functions.file),
-        None => None,
+        None => asked.rules,
     }
 }
 

@@ -12,7 +12,7 @@ ghost use Rattle.rx_report.specs.Texts.{IsReportableVerdict};
 use crate::asked::{Asked, condition_of, file_of, push_call, push_file};
 use crate::faults::{Place, is_about_pre, place_of, spot_at};
 use crate::logs::{Facts, push_line_number, push_log_line};
-use crate::remarks::{is_about_log, mode_after, tries_of, words_of};
+use crate::remarks::{is_about_log, mode_after, rule_line_of, tries_of, words_of};
 use rx_command::Functions;
 use rx_places::{
     NoMemory, Spot, column_of, line_of, push_excerpt, push_number, push_quoted, push_word,
@@ -188,7 +188,8 @@ fn push_remark_name(
         push_file(out, asked.log)?;
         push_line_number(out, facts.number)
     } else {
-        push_subject_name(out, asked, verdict)
+        push_subject_name(out, asked, verdict)?;
+        push_line_number(out, rule_line_of(verdict))
     }
 }
 
@@ -265,6 +266,14 @@ fn usage(alloc: Global) -> Result<Vec<u8>, NoMemory>
     push_word(
         &mut out,
         b"  a counterexample: ctrl refute examples/twice.c twice same\n",
+    )?;
+    push_word(
+        &mut out,
+        b"  written rules:    ctrl rules examples/sum.rules\n",
+    )?;
+    push_word(
+        &mut out,
+        b"  rules of C:       ctrl translate examples/sum.c up rec\n",
     )?;
     push_word(&mut out, b"  some examples:    ctrl demo 10\n")?;
     Ok(out)

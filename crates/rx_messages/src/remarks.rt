@@ -49,6 +49,16 @@ pub(crate) fn is_about_log(verdict: &Verdict) -> bool
     }
 }
 
+/// The line of the rule text that the report is about.
+pub(crate) fn rule_line_of(verdict: &Verdict) -> Option<usize>
+    ensures { result ≡ spec.rule_line_of verdict.now }
+{
+    match verdict {
+        Verdict::RuleLine(number) => Some(*number),
+        _ => None,
+    }
+}
+
 /// What a report says, behind the word that it is about.
 pub(crate) fn words_of(verdict: &Verdict) -> &'static [u8]
     ensures { result.now ≡ spec.words_of verdict.now }
@@ -72,11 +82,18 @@ pub(crate) fn words_of(verdict: &Verdict) -> &'static [u8]
         Verdict::Box(_) => b"there are more than 1000000 points",
         Verdict::Line(_) => b"no log goes on like this",
         Verdict::Check(end) => words_of_check(*end),
+        Verdict::RuleLine(_) => b"no rule text goes on like this",
+        Verdict::NotMade(_) => {
+            b"the rule with this number isn't well made, or the equation behind all rules doesn't fit"
+        }
+        Verdict::NoCover => b"no trees are found that show that some rule applies everywhere",
+        Verdict::Inductive => b"",
         Verdict::Usage => b"the words ask for nothing that ctrl does",
         Verdict::ReadFault => b"the file can't be read, or the log can't",
         Verdict::LargeTranslate => b"a polynomial of the functions passes the limits",
         Verdict::LargePre => b"a polynomial of the precondition passes the limits",
         Verdict::LargeSearch => b"a polynomial that the search forms passes the limits",
+        Verdict::LargeRules => b"the rules of the functions pass the limits of rule texts",
     }
 }
 
@@ -124,10 +141,14 @@ pub(crate) fn tries_of(verdict: &Verdict) -> Option<&'static [u8]>
         Verdict::Box(_) => Some(b"a smaller --box"),
         Verdict::Line(_) => Some(b"docs/LOG-FORMAT.md, which says what each line is"),
         Verdict::Check(end) => tries_after_check(*end),
+        Verdict::RuleLine(_) => Some(b"docs/RULE-TEXT.md, which says what each line is"),
+        Verdict::NotMade(_) => Some(b"docs/RULE-TEXT.md, which says what is well made"),
+        Verdict::NoCover => Some(b"rules for the arguments and results that are left out"),
         Verdict::ReadFault => Some(b"the names of the files, and whether they may be read"),
         Verdict::LargeTranslate | Verdict::LargePre | Verdict::LargeSearch => {
             Some(b"to compare smaller parts")
         }
+        Verdict::LargeRules => Some(b"to translate smaller parts"),
         _ => None,
     }
 }
