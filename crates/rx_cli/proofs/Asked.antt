@@ -11,10 +11,10 @@ use Rattle.clap.specs.Words.{Row, fault_of, first_of, matches_of}
 use Rattle.rx_command.specs.App.{command_app}
 use Rattle.rx_command.specs.declared.command.Effort.{Effort}
 use Rattle.rx_command.specs.declared.command.Extent.{Extent}
-use Rattle.rx_command.specs.Commands.{Check, Command, Compare, Comparison, Demo, Functions, Prove, Refute, both_numbers, check_of, command_of, effort_of, functions_of, if_taken, demo_of, extent_of, has_no_effort, has_no_extent, has_no_more_words, has_no_options, in_mode, is_short, named, number_or, prove_of, refute_of}
+use Rattle.rx_command.specs.Commands.{Check, Command, Compare, Comparison, Demo, Find, Functions, Prove, Refute, Replay, Rules, Translate, after_comparisons, both_numbers, check_of, command_of, effort_of, functions_of, if_taken, demo_of, extent_of, has_no_effort, has_no_extent, has_no_more_words, has_no_numbers, has_no_options, has_rules_alone, in_mode, is_short, named, number_or, prove_of, refute_of, rules_of, translate_of}
 use Rattle.rx_command.specs.Numbers.{is_decimal, number_of}
 use Rattle.rx_cli.specs.Answers.{functions_in}
-use Rattle.rx_cli.specs.Steps.{IsNotDeep}
+use Rattle.rx_cli.specs.Steps.{IsNotDeep, IsInductionNotDeep}
 
 -- the functions, where there are some, have a short precondition
 abbrev AreShort : Option Functions → Type 0
@@ -80,9 +80,11 @@ pub record IsAllowedComparison (comparison : Comparison) : Type 0 where
   pub short : is_short (functions_in comparison).precondition ≡ true
   pub depth : IsNotDeep comparison
 
--- such a comparison, or at most 100 examples
+-- such a comparison, such a search, a short precondition, or at most 100 examples
 abbrev pub IsAllowed : Command → Type 0
 IsAllowed (Compare comparison) = IsAllowedComparison comparison
+IsAllowed (Rules task) = IsInductionNotDeep task
+IsAllowed (Translate f) = is_short f.precondition ≡ true
 IsAllowed (Demo pairs) = pairs ≤ 100
 
 abbrev AllowsOnly : Option Command → Type 0
@@ -119,6 +121,25 @@ refute_allowed (Some f) (Some extent) None short command is =
     let same : Compare (Refute f extent) ≡ command = same_some refl is in
     subst IsAllowed same (record { short = short f refl; depth = tt })
 
+rules_allowed : (file log : Option (List ℕ)) (alone : Bool) (e : Option Effort) → IsEffort e →
+    AllowsOnly (rules_of file log alone e)
+rules_allowed None log alone e deep command is = none_allowed command is
+rules_allowed (Some file) None alone None deep command is = none_allowed command is
+rules_allowed (Some file) None alone (Some effort) deep command is =
+    let same : Rules (Find file effort) ≡ command = same_some refl is in
+    subst IsAllowed same (deep effort refl)
+rules_allowed (Some file) (Some log) true e deep command is =
+    let same : Rules (Replay file log) ≡ command = same_some refl is in subst IsAllowed same tt
+rules_allowed (Some file) (Some log) false e deep command is = none_allowed command is
+
+translate_allowed : (o : Option Functions) (log : Option (List ℕ)) → AreShort o →
+    AllowsOnly (translate_of o log)
+translate_allowed None log short command is = none_allowed command is
+translate_allowed (Some f) (Some log) short command is = none_allowed command is
+translate_allowed (Some f) None short command is =
+    let same : Translate f ≡ command = same_some refl is in
+    subst IsAllowed same (short f refl)
+
 demo_allowed : (o : Option (List ℕ)) → AllowsOnly (demo_of o)
 demo_allowed None command is = none_allowed command is
 demo_allowed (Some text) command is = go (number_of 1 100 text) refl is
@@ -144,13 +165,26 @@ in_demo mode rows =
     if bytes_eq mode (codes "demo") && (has_no_more_words rows && has_no_options rows) then
     demo_of (first_of (codes "file") rows) else None
 
+abbrev in_translate : List Row → Option Command
+in_translate rows = translate_of (functions_of rows) (first_of (codes "log") rows)
+
+abbrev after_rules : List ℕ → List Row → Option Command
+after_rules mode rows =
+    if bytes_eq mode (codes "translate") && has_no_numbers rows then in_translate rows else
+    in_demo mode rows
+
+abbrev in_rules : List Row → Option Command
+in_rules rows =
+    rules_of (first_of (codes "file") rows) (first_of (codes "first") rows) (has_no_effort rows)
+    (effort_of rows)
+
 abbrev in_refute : List Row → Option Command
 in_refute rows = refute_of (functions_of rows) (extent_of rows) (first_of (codes "log") rows)
 
 abbrev after_check : List ℕ → List Row → Option Command
 after_check mode rows =
     if bytes_eq mode (codes "refute") && has_no_effort rows then in_refute rows else
-    in_demo mode rows
+    after_comparisons mode rows
 
 abbrev in_check : List Row → Option Command
 in_check rows =
@@ -168,12 +202,28 @@ demo_mode_allowed mode rows =
     (demo_of (first_of (codes "file") rows)) None (demo_allowed (first_of (codes "file") rows))
     none_allowed
 
+after_rules_allowed : (mode : List ℕ) (rows : List Row) → AllowsOnly (after_rules mode rows)
+after_rules_allowed mode rows =
+    if_allowed (bytes_eq mode (codes "translate") && has_no_numbers rows) (in_translate rows)
+    (in_demo mode rows)
+    (translate_allowed (functions_of rows) (first_of (codes "log") rows) (functions_short rows))
+    (demo_mode_allowed mode rows)
+
+after_comparisons_allowed : (mode : List ℕ) (rows : List Row) →
+    AllowsOnly (after_comparisons mode rows)
+after_comparisons_allowed mode rows =
+    if_allowed (bytes_eq mode (codes "rules") && has_rules_alone rows) (in_rules rows)
+    (after_rules mode rows)
+    (rules_allowed (first_of (codes "file") rows) (first_of (codes "first") rows)
+    (has_no_effort rows) (effort_of rows) (effort_deep rows))
+    (after_rules_allowed mode rows)
+
 after_check_allowed : (mode : List ℕ) (rows : List Row) → AllowsOnly (after_check mode rows)
 after_check_allowed mode rows =
     if_allowed (bytes_eq mode (codes "refute") && has_no_effort rows) (in_refute rows)
-    (in_demo mode rows)
+    (after_comparisons mode rows)
     (refute_allowed (functions_of rows) (extent_of rows) (first_of (codes "log") rows)
-    (functions_short rows)) (demo_mode_allowed mode rows)
+    (functions_short rows)) (after_comparisons_allowed mode rows)
 
 after_prove_allowed : (mode : List ℕ) (rows : List Row) → AllowsOnly (after_prove mode rows)
 after_prove_allowed mode rows =

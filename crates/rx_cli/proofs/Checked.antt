@@ -69,7 +69,7 @@ module _ (verdict : Verdict) (says : status_of verdict ≡ Ends.Equivalent) wher
       absurd (let none : ⊥ = cc in none)
   by_length problem bytes false on = text_accepted problem bytes on
 
-  read_accepted : (problem : Problem) (log : Option (List ℕ)) → OnRead problem log verdict →
+  pub read_accepted : (problem : Problem) (log : Option (List ℕ)) → OnRead problem log verdict →
       (log : Log) × IsAccepted problem.rules problem.goal log
   read_accepted problem None is =
       let no : Ends.ReadFault ≡ Ends.Equivalent = status_is Said.ReadFault is in

@@ -4,7 +4,7 @@ use Rattle.std.specs.Prelude.{◌==◌, if◌then◌else◌, MatchBool}
 use Rattle.rx_check.specs.declared.check_end.CheckEnd.{CheckEnd}
 use Rattle.rx_check.specs.declared.check_end.CheckEnd.TheVariants as check_end
 use Rattle.rx_io.specs.Outside.{Names}
-use Rattle.rx_command.specs.Commands.{Check, Command, Compare, Demo, Functions, Prove, Refute, command_of}
+use Rattle.rx_command.specs.Commands.{Check, Command, Compare, Demo, Find, Functions, Induction, Prove, Refute, Replay, Rules, Translate, command_of}
 use Rattle.rx_command.specs.declared.command.Effort.{Effort}
 use Rattle.rx_command.specs.declared.command.Extent.{Extent}
 use Rattle.rx_report.specs.declared.answer.Answer.{Answer}
@@ -12,14 +12,18 @@ use Rattle.rx_report.specs.declared.ends.Status.TheVariants as Ends
 use Rattle.rx_report.specs.declared.answer.Answer.TheVariants.{Line, Proof}
 use Rattle.rx_report.specs.declared.verdicts.Verdict.{Verdict}
 use Rattle.rx_report.specs.declared.verdicts.Verdict.TheVariants as Said
-use Rattle.rx_cli.specs.Answers.{AreEqual, Input, AnswersSoundly, AnswersOrFails, IsDone, IsInput, IsHeld, IsRefutedBy, Means, OnSource, functions_in, longest_source}
+use Rattle.rx_cli.specs.Problems.{longest_source}
+use Rattle.rx_cli.specs.Answers.{AreEqual, Input, AnswersSoundly, AnswersOrFails, IsDone, IsInput, IsHeld, IsInductionDone, IsRefutedBy, Means, OnComparison, OnSource, file_in, functions_in}
 use Rattle.rx_search.specs.Search.{Searched, NoRanks, LargeRanks, Closed, Large, Spent, NoPlan}
 use Rattle.rx_cli.specs.Examples.{IsShown}
-use Rattle.rx_cli.specs.Proofs.{IsProved, OnSearched}
+use Rattle.rx_cli.specs.Inductions.{IsSought}
+use Rattle.rx_cli.specs.Proofs.{IsProved, OnProblem, OnSearched}
 use Rattle.rx_cli.specs.Searches.{sought}
 use Rattle.rx_cli.specs.declared.problems.Problem.{Problem}
 use Rattle.rx_report.specs.Ends.{check_status, status_in, status_of}
 use Rattle.rx_cli.specs.Refutations.{IsRefuted, Refutes}
+use Rattle.rx_cli.specs.Translations.{IsWritten, OnWriting}
+use Rattle.rx_find_cover.specs.Coverable.{coverage}
 use Rattle.rx_cli.proofs.Comparisons.{different_refutes}
 
 module _ (held : Option Names) (words : List (List ℕ)) where
@@ -37,8 +41,15 @@ module _ (held : Option Names) (words : List (List ℕ)) where
       agrees,
     ),
   )
+  by_command (Some (Rules task)) is given is_given (source, there, shows) = (
+    Rules task,
+    is,
+    (source, subst (IsHeld held (file_in task)) there is_given.0, shows),
+  )
+  by_command (Some (Translate f)) is given is_given (source, there, has) =
+      (Translate f, is, (source, subst (IsHeld held f.file) there is_given, has))
 
-  -- where the status is that of equivalence, both functions agree
+  -- where the status is that of equivalence, what the words ask about holds
   pub answered_equal : (fault : Type 0) (answer : Answer) →
       AnswersOrFails held fault (command_of words) answer → status_in answer ≡ Ends.Equivalent →
       AreEqual held words
@@ -81,11 +92,16 @@ lines_never_differ (Said.PreName token) e = cc
 lines_never_differ (Said.Box count) e = cc
 lines_never_differ (Said.Line number) e = cc
 lines_never_differ (Said.Check end) e = check_never_differs end e
+lines_never_differ (Said.RuleLine number) e = cc
+lines_never_differ (Said.NotMade rule) e = cc
+lines_never_differ Said.NoCover e = cc
+lines_never_differ Said.Inductive e = cc
 lines_never_differ Said.Usage e = cc
 lines_never_differ Said.ReadFault e = cc
 lines_never_differ Said.LargeTranslate e = cc
 lines_never_differ Said.LargePre e = cc
 lines_never_differ Said.LargeSearch e = cc
+lines_never_differ Said.LargeRules e = cc
 
 module _ (held : Option Names) (words : List (List ℕ)) where
   by_length : (f : Functions) (extent : Extent) (source : List ℕ) (answer : Answer) (long : Bool)
@@ -98,7 +114,7 @@ module _ (held : Option Names) (words : List (List ℕ)) where
       different_refutes f extent source answer refuted says
 
   by_source : (f : Functions) (extent : Extent) (answer : Answer) (given log : Option (List ℕ)) →
-      IsHeld held f.file given → OnSource (Refute f extent) given log answer
+      IsHeld held f.file given → OnComparison (Refute f extent) given log answer
       → status_in answer ≡ Ends.Different → (source : List ℕ) × IsHeld held f.file (Some source) ×
       Refutes source f
   by_source f extent answer None log there is says =
@@ -142,7 +158,7 @@ module _ (held : Option Names) (words : List (List ℕ)) where
     not_proved_long f effort source false proved = not_proved f effort source proved
 
     not_proved_on : (f : Functions) (effort : Effort) (given log : Option (List ℕ)) →
-        OnSource (Prove f effort) given log answer → ⊥
+        OnComparison (Prove f effort) given log answer → ⊥
     not_proved_on f effort None log is = no_line Said.ReadFault is
     not_proved_on f effort (Some source) log on =
         not_proved_long f effort source (nat_lt longest_source (length source)) on
@@ -154,10 +170,54 @@ module _ (held : Option Names) (words : List (List ℕ)) where
     not_checked_long f name source log false (verdict, checked, is) = no_line verdict is
 
     not_checked_on : (f : Functions) (name : List ℕ) (given log : Option (List ℕ)) →
-        OnSource (Check f name) given log answer → ⊥
+        OnComparison (Check f name) given log answer → ⊥
     not_checked_on f name None log is = no_line Said.ReadFault is
     not_checked_on f name (Some source) log on =
         not_checked_long f name source log (nat_lt longest_source (length source)) on
+
+    -- nor has a proof of the equation of a rule text, nor a rule text
+    not_covered : (problem : Problem) (effort : Effort) (covered noted : Bool) →
+        MatchBool covered (OnProblem problem effort answer)
+        (MatchBool noted (answer ≡ Line Said.LargeSearch) (answer ≡ Line Said.NoCover)) → ⊥
+    not_covered problem effort true noted on =
+        not_searched problem effort
+        (sought problem.rules problem.goal effort.depth effort.budget) on
+    not_covered problem effort false true is = no_line Said.LargeSearch is
+    not_covered problem effort false false is = no_line Said.NoCover is
+
+    not_sought : (effort : Effort) (source : List ℕ) → IsSought effort source answer → ⊥
+    not_sought effort source (inl (verdict, ended, is)) = no_line verdict is
+    not_sought effort source (inr (problem, found, on)) =
+        not_covered problem effort (coverage problem.rules).covered
+        (coverage problem.rules).noted on
+
+    not_induced : (task : Induction) (log : Option (List ℕ)) (source : List ℕ) →
+        IsInductionDone task source log answer → ⊥
+    not_induced (Find file effort) log source is = not_sought effort source is
+    not_induced (Replay file name) log source (verdict, replayed, is) = no_line verdict is
+
+    not_on_writing : (problem : Problem) → OnWriting problem answer → ⊥
+    not_on_writing problem (inl (text, is, answer_is)) =
+        let no : Ends.Equivalent ≡ Ends.Different = sym (ap status_in answer_is) ∙ says in cc
+    not_on_writing problem (inr (none, is)) = no_line Said.LargeRules is
+
+    not_written : (f : Functions) (source : List ℕ) → IsWritten f source answer → ⊥
+    not_written f source (inl (verdict, ended, is)) = no_line verdict is
+    not_written f source (inr (problem, found, on)) =
+        not_on_writing problem on
+
+    not_long : (done : List ℕ → Answer → Type 0) (source : List ℕ) (long : Bool) →
+        (done source answer → ⊥) →
+        MatchBool long (answer ≡ Line Said.LongSource) (done source answer) → ⊥
+    not_long done source true never is = no_line Said.LongSource is
+    not_long done source false never is = never is
+
+    not_on_source : (done : List ℕ → Answer → Type 0) →
+        ((source : List ℕ) → done source answer → ⊥) → (given : Option (List ℕ)) →
+        OnSource done given answer → ⊥
+    not_on_source done never None is = no_line Said.ReadFault is
+    not_on_source done never (Some source) on =
+        not_long done source (nat_lt longest_source (length source)) (never source) on
 
     not_shown : (pairs : ℕ) → (verdict : Verdict) × IsShown pairs verdict ×
         (answer ≡ Line verdict) → ⊥
@@ -167,6 +227,11 @@ module _ (held : Option Names) (words : List (List ℕ)) where
         IsRefutedBy held words
     by_asked None is to = absurd (no_line Said.Usage to.is)
     by_asked (Some (Demo pairs)) is to = absurd (not_shown pairs to.is)
+    by_asked (Some (Rules task)) is to =
+        absurd (not_on_source (λ text said. IsInductionDone task text to.given.log said)
+        (not_induced task to.given.log) to.given.source to.is)
+    by_asked (Some (Translate f)) is to =
+        absurd (not_on_source (IsWritten f) (not_written f) to.given.source to.is)
     by_asked (Some (Compare (Prove f effort))) is to =
         absurd (not_proved_on f effort to.given.source to.given.log to.is)
     by_asked (Some (Compare (Check f name))) is to =

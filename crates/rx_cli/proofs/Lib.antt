@@ -5,6 +5,7 @@ pub mod Comparisons
 pub mod Complete
 pub mod Equals
 pub mod ExampleLaws
+pub mod Induced
 pub mod LogFaults
 pub mod LogFileVerdicts
 pub mod MemoryLemmas
@@ -12,8 +13,10 @@ pub mod OneReport
 pub mod Proved
 pub mod Ready
 pub mod Refuted
+pub mod RuleAnswers
 pub mod RunLemmas
 pub mod Searching
 pub mod Sound
 pub mod Written
 pub mod ToldLemmas
+pub mod Unmade

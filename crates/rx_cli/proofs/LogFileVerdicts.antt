@@ -2,7 +2,6 @@
 use Rattle.std.proofs.Common.{ℕ, List, Option, Ok, Err, inl, inr, refl, sym, subst}
 use Rattle.c_front.specs.declared.stages.Next.{Next}
 use Rattle.c_front.specs.declared.stages.Next.TheVariants.{Ends, Goes}
-use Rattle.rx_command.specs.Commands.{Functions}
 use Rattle.rx_io.specs.Outside.{Names}
 use Rattle.rx_log.specs.Acceptance as acceptance
 use Rattle.rx_logfile.specs.LogFiles.{OnFile}
@@ -12,10 +11,9 @@ use Rattle.rx_cli.specs.declared.problems.Problem.{Problem}
 use Rattle.rx_report.specs.declared.verdicts.Verdict.{Verdict}
 use Rattle.rx_report.specs.declared.verdicts.Verdict.TheVariants as Said
 use Rattle.rx_cli.specs.Checks.{longest_log}
-use Rattle.rx_cli.specs.Problems.{asked}
-use Rattle.rx_cli.specs.Steps.{ChecksNamed, ChecksRead, OnNext, Reads, SaysEndOfLog}
+use Rattle.rx_cli.specs.Steps.{ChecksRead, OnNext, Reads, SaidOfNamed, SaysEndOfLog}
 use Rattle.rx_report.specs.Texts.{IsReportableVerdict}
-use Rattle.rx_cli.proofs.AnswerLemmas.{checks_text, checks_unread}
+use Rattle.rx_cli.proofs.AnswerLemmas.{said_read, said_unread}
 use Rattle.rx_cli.proofs.LogFaults.{verdict_said}
 
 module _ (held : Option Names) (fault : Type 0) (name : List ℕ) (problem : Problem) where
@@ -58,18 +56,17 @@ module _ (held : Option Names) (fault : Type 0) (name : List ℕ) (problem : Pro
       )
   end_said end.NoMemory verdict is told = absurd is
 
-module _ (held : Option Names) (fault : Type 0) (f : Functions) (source name : List ℕ)
-    (verdict : Verdict) (problem : Problem) (found : asked f source (Goes problem)) where
+module _ (held : Option Names) (fault : Type 0) (name : List ℕ) (problem : Problem)
+    (verdict : Verdict) where
   by_next : (next : Next Verdict (List ℕ)) → Reads held fault name longest_log Said.LongLog next →
-      OnNext problem next verdict → ChecksNamed held fault f source name verdict
+      OnNext problem next verdict → SaidOfNamed held fault name problem verdict
   by_next (Ends end) reads is =
-      checks_unread held fault f source name verdict problem found
+      said_unread held fault name problem verdict
       (subst (λ v. Reads held fault name longest_log Said.LongLog (Ends v)) (sym is) reads)
   by_next (Goes bytes) reads on =
-      checks_text held fault f source name verdict problem found bytes bytes reads.0 reads.1 refl
-      on
+      said_read held fault name problem verdict bytes reads.0 reads.1 on
 
   -- what is said of a log that is read is said of the problem
   pub read_said : ChecksRead held fault name problem verdict →
-      ChecksNamed held fault f source name verdict
+      SaidOfNamed held fault name problem verdict
   read_said read = by_next read.next read.reads read.on

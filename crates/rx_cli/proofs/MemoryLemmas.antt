@@ -6,7 +6,7 @@ use Rattle.rx_check.specs.declared.check_end.CheckEnd.TheVariants as End
 use Rattle.c_refute.specs.declared.findings.Compared.TheVariants as found
 use Rattle.rx_io.specs.Outside.{Names, AppendsPrefix}
 use Rattle.rx_report.specs.declared.answer.Answer.{Answer}
-use Rattle.rx_report.specs.declared.answer.Answer.TheVariants.{Line, Proof, Found}
+use Rattle.rx_report.specs.declared.answer.Answer.TheVariants.{Line, Proof, RuleText, Found}
 use Rattle.rx_report.specs.declared.ends.Status.{Status}
 use Rattle.rx_report.specs.declared.ends.Status.TheVariants as Ends
 use Rattle.rx_report.specs.declared.verdicts.Verdict.{Verdict}
@@ -49,15 +49,21 @@ never_cut_line (Said.PreName token) e = cc
 never_cut_line (Said.Box count) e = cc
 never_cut_line (Said.Line number) e = cc
 never_cut_line (Said.Check end) e = never_cut_check end e
+never_cut_line (Said.RuleLine number) e = cc
+never_cut_line (Said.NotMade rule) e = cc
+never_cut_line Said.NoCover e = cc
+never_cut_line Said.Inductive e = cc
 never_cut_line Said.Usage e = cc
 never_cut_line Said.ReadFault e = cc
 never_cut_line Said.LargeTranslate e = cc
 never_cut_line Said.LargePre e = cc
 never_cut_line Said.LargeSearch e = cc
+never_cut_line Said.LargeRules e = cc
 
 never_cut : (answer : Answer) → status_in answer ≡ Ends.WriteFault → ⊥
 never_cut (Line verdict) e = never_cut_line verdict e
 never_cut (Proof text) e = cc
+never_cut (RuleText text) e = cc
 never_cut (Found (found.Different arguments first second)) e = cc
 never_cut (Found (found.Alike points undecided)) e = cc
 

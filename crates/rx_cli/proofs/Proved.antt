@@ -20,13 +20,12 @@ use Rattle.rx_cli.specs.Searches.{sought}
 use Rattle.rx_cli.proofs.Checked.{never_asked}
 use Rattle.rx_cli.proofs.Sound.{problem_agrees}
 
-module _ (f : Functions) (source : List ℕ) (answer : Answer)
-    (says : status_in answer ≡ Ends.Equivalent) where
-  status_is : (verdict : Verdict) → answer ≡ Line verdict → status_of verdict ≡ Ends.Equivalent
+module _ (answer : Answer) (says : status_in answer ≡ Ends.Equivalent) where
+  pub status_is : (verdict : Verdict) → answer ≡ Line verdict → status_of verdict ≡ Ends.Equivalent
   status_is verdict is = sym (ap status_in is) ∙ says
 
   -- the answer is the text of an accepted log
-  searched_proof : (problem : Problem) (effort : Effort) (s : Searched) →
+  pub searched_proof : (problem : Problem) (effort : Effort) (s : Searched) →
       OnSearched problem effort s answer
       → (moves : List Move) × IsProofText problem moves (text_in answer)
   searched_proof problem effort NoRanks is =
@@ -47,16 +46,18 @@ module _ (f : Functions) (source : List ℕ) (answer : Answer)
       let no : Ends.Unknown ≡ Ends.Equivalent = status_is (Said.Depth effort.depth) is in
       absurd (let none : ⊥ = cc in none)
 
+module _ (f : Functions) (source : List ℕ) (answer : Answer)
+    (says : status_in answer ≡ Ends.Equivalent) where
   -- it is one for the problem that both functions pose
   pub proved_text : (effort : Effort) → IsProved f effort source answer
       → (problem : Problem) × asked f source (Goes problem) ×
       ((moves : List Move) × IsProofText problem moves (text_in answer))
   proved_text effort (inl (verdict, ended, is)) =
-      absurd (never_asked verdict (status_is verdict is) f source ended)
+      absurd (never_asked verdict (status_is answer says verdict is) f source ended)
   proved_text effort (inr (problem, found, on)) = (
     problem,
     found,
-    searched_proof problem effort
+    searched_proof answer says problem effort
         (sought problem.rules problem.goal effort.depth effort.budget) on,
   )
 

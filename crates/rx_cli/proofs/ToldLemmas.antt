@@ -6,7 +6,7 @@ use Rattle.rx_report.specs.Ends.{status_in}
 use Rattle.rx_report.specs.Reports.{IsReportable, text_in}
 use Rattle.rx_report.specs.Texts.{IsReportableVerdict}
 use Rattle.rx_report.specs.declared.answer.Answer.{Answer}
-use Rattle.rx_report.specs.declared.answer.Answer.TheVariants.{Line, Proof, Found}
+use Rattle.rx_report.specs.declared.answer.Answer.TheVariants.{Line, Proof, RuleText, Found}
 use Rattle.rx_report.specs.declared.ends.Status.{Status}
 use Rattle.rx_report.specs.declared.verdicts.Verdict.{Verdict}
 use Rattle.rx_cli.specs.Told.{Tells, line_in}
@@ -19,6 +19,8 @@ told_of old new (Line verdict) reportable written =
     record { reportable = reportable; status_is = refl; written = written }
 told_of old new (Proof text) reportable written =
     inl (record { answer = Proof text; no_line = refl; status_is = refl; written = written })
+told_of old new (RuleText text) reportable written =
+    inl (record { answer = RuleText text; no_line = refl; status_is = refl; written = written })
 told_of old new (Found found) reportable written =
     inl (record { answer = Found found; no_line = refl; status_is = refl; written = written })
 
@@ -45,4 +47,5 @@ reportable_line answer verdict reportable is_verdict =
         MatchOption (line_in answer) ⊤ IsReportableVerdict
     of_answer (Line verdict) reportable = reportable
     of_answer (Proof text) reportable = tt
+    of_answer (RuleText text) reportable = tt
     of_answer (Found found) reportable = tt

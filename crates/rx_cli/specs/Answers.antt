@@ -1,7 +1,7 @@
 -- What a run answers to its words and to what it read.
 use Rattle.std.specs.Prelude.{◌≡◌, ◌⊎◌, ℕ, ◌<◌, List, Option, Some, None, ⊤, length, nat_lt, IsSome, MatchBool}
 use Rattle.rx_io.specs.Outside.{Names}
-use Rattle.rx_command.specs.Commands.{Command, Compare, Demo, Comparison, Functions, Prove, Check, Refute, command_of}
+use Rattle.rx_command.specs.Commands.{Command, Compare, Rules, Translate, Demo, Comparison, Functions, Prove, Check, Refute, Induction, Find, Replay, command_of}
 use Rattle.rx_command.specs.declared.command.Extent.{Extent}
 use Rattle.rx_report.specs.declared.answer.Answer.{Answer}
 use Rattle.rx_report.specs.declared.answer.Answer.TheVariants.{Line}
@@ -12,12 +12,11 @@ use Rattle.rx_cli.specs.Agreement.{Agrees}
 use Rattle.rx_cli.specs.Checks.{IsChecked}
 use Rattle.rx_report.specs.Ends.{status_in}
 use Rattle.rx_cli.specs.Examples.{IsShown, example_functions, example_source}
+use Rattle.rx_cli.specs.Inductions.{IsReplayed, IsSought, HasInductiveTheorem}
 use Rattle.rx_cli.specs.Proofs.{IsProved}
+use Rattle.rx_cli.specs.Problems.{longest_source}
 use Rattle.rx_cli.specs.Refutations.{IsRefuted, Refutes}
-
--- the most bytes of a source
-abbrev pub longest_source : ℕ
-longest_source = 1048576
+use Rattle.rx_cli.specs.Translations.{HasRuleText, IsWritten}
 
 -- ---- what was read
 
@@ -43,12 +42,25 @@ IsLogHeld held (Prove f effort) given = ⊤
 IsLogHeld held (Check f log) given = IsHeld held log given
 IsLogHeld held (Refute f extent) given = ⊤
 
+-- the rule text whose equation is proved
+abbrev pub file_in : Induction → List ℕ
+file_in (Find file effort) = file
+file_in (Replay file log) = file
+
+-- the log that is read for it, where one is
+abbrev pub IsInductionLogHeld : Option Names → Induction → Option (List ℕ) → Type 0
+IsInductionLogHeld held (Find file effort) given = ⊤
+IsInductionLogHeld held (Replay file log) given = IsHeld held log given
+
 -- what was read for a command
 abbrev pub IsInput : Option Names → Option Command → Input → Type 0
 IsInput held None given = ⊤
 IsInput held (Some (Demo pairs)) given = ⊤
 IsInput held (Some (Compare comparison)) given =
     IsHeld held (functions_in comparison).file given.source × IsLogHeld held comparison given.log
+IsInput held (Some (Rules task)) given =
+    IsHeld held (file_in task) given.source × IsInductionLogHeld held task given.log
+IsInput held (Some (Translate f)) given = IsHeld held f.file given.source
 
 -- ---- answers
 
@@ -59,12 +71,28 @@ IsDone (Refute f extent) source log answer = IsRefuted f extent source answer
 IsDone (Check f name) source log answer =
     (verdict : Verdict) × IsChecked f source log verdict × (answer ≡ Line verdict)
 
--- the answer to what was read in the place of the source: nothing, too much, or another text
-abbrev pub OnSource : Comparison → Option (List ℕ) → Option (List ℕ) → Answer → Type 0
-OnSource comparison None log answer = answer ≡ Line Said.ReadFault
-OnSource comparison (Some source) log answer =
+-- the answer to what was read in the place of the source: nothing, too much, or another text, for
+-- which it is said what the answer is
+abbrev pub OnSource : (List ℕ → Answer → Type 0) → Option (List ℕ) → Answer → Type 0
+OnSource answers None answer = answer ≡ Line Said.ReadFault
+OnSource answers (Some source) answer =
     MatchBool (nat_lt longest_source (length source)) (answer ≡ Line Said.LongSource)
-    (IsDone comparison source log answer)
+    (answers source answer)
+
+-- the answer to a comparison and to what was read for it
+abbrev pub OnComparison : Comparison → Option (List ℕ) → Option (List ℕ) → Answer → Type 0
+OnComparison comparison source log answer =
+    OnSource (λ text said. IsDone comparison text log said) source answer
+
+-- the answer where the equation of a rule text is to be proved
+abbrev pub IsInductionDone : Induction → List ℕ → Option (List ℕ) → Answer → Type 0
+IsInductionDone (Find file effort) source log answer = IsSought effort source answer
+IsInductionDone (Replay file name) source log answer =
+    (verdict : Verdict) × IsReplayed source log verdict × (answer ≡ Line verdict)
+
+abbrev pub OnInduction : Induction → Option (List ℕ) → Option (List ℕ) → Answer → Type 0
+OnInduction task source log answer =
+    OnSource (λ text said. IsInductionDone task text log said) source answer
 
 -- the answer to a command and to what was read for it
 abbrev pub Answers : Option Command → Input → Answer → Type 0
@@ -72,20 +100,27 @@ Answers None given answer = answer ≡ Line Said.Usage
 Answers (Some (Demo pairs)) given answer =
     (verdict : Verdict) × IsShown pairs verdict × (answer ≡ Line verdict)
 Answers (Some (Compare comparison)) given answer =
-    OnSource comparison given.source given.log answer
+    OnComparison comparison given.source given.log answer
+Answers (Some (Rules task)) given answer = OnInduction task given.source given.log answer
+Answers (Some (Translate f)) given answer = OnSource (IsWritten f) given.source answer
 
 -- the functions of the first examples agree
 abbrev pub ExamplesAgree : ℕ → Type 0
 ExamplesAgree pairs = (k : ℕ) → k < pairs → Agrees (example_source k) example_functions
 
--- both functions agree in the text that was read, or in each example
+-- for a comparison: both functions agree in the text that was read; for `rules`: the equation of the
+-- rule text that was read is an inductive theorem of its rules; for `translate`: the rules of both
+-- functions have a text; for `demo`: the functions of each example agree
 abbrev pub Means : Option Command → Input → Type 0
 Means None given = ⊥
 Means (Some (Demo pairs)) given = ExamplesAgree pairs
 Means (Some (Compare comparison)) given =
     (source : List ℕ) × (given.source ≡ Some source) × Agrees source (functions_in comparison)
+Means (Some (Rules task)) given = (source : List ℕ) × (given.source ≡ Some source) × HasInductiveTheorem source
+Means (Some (Translate f)) given =
+    (source : List ℕ) × (given.source ≡ Some source) × HasRuleText source f
 
--- the answer to what was read, which is right where it says that the functions are equal
+-- the answer to what was read, which is right where it says yes
 pub record AnswersSoundly (held : Option Names) (command : Option Command) (answer : Answer) : Type
     0
   where
@@ -100,13 +135,16 @@ AnswersOrFails held read_fault command answer =
     AnswersSoundly held command answer
     ⊎ (IsSome command × read_fault × (answer ≡ Line Said.ReadFault))
 
--- in a text that is under the name, where that is known, both functions agree; where it isn't
--- known, in some text; or those of each example do
+-- the same of a text that is under the name, where that is known; where it isn't, of some text
 abbrev pub Holds : Option Names → Command → Type 0
 Holds held (Demo pairs) = ExamplesAgree pairs
 Holds held (Compare comparison) =
     (source : List ℕ) × IsHeld held (functions_in comparison).file (Some source)
     × Agrees source (functions_in comparison)
+Holds held (Rules task) =
+    (source : List ℕ) × IsHeld held (file_in task) (Some source) × HasInductiveTheorem source
+Holds held (Translate f) =
+    (source : List ℕ) × IsHeld held f.file (Some source) × HasRuleText source f
 
 -- what the words ask about holds
 abbrev pub AreEqual : Option Names → List (List ℕ) → Type 0

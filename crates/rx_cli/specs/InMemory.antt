@@ -6,7 +6,7 @@ use Rattle.rx_report.specs.declared.ends.Status.TheVariants as Ends
 use Rattle.rx_cli.specs.Run.{Reports}
 
 -- what is held is answered by a read fault: the file that the words name isn't held, or the log
--- that a check of it comes to isn't
+-- that a check or a replay of it comes to isn't
 abbrev pub IsAbsent : Names → List (List ℕ) → Type 0
 IsAbsent names words = (text : List ℕ) × Reports (Some names) ⊥ words Ends.ReadFault text
 

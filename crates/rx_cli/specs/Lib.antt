@@ -4,6 +4,7 @@ pub mod Checks
 pub mod Completeness
 pub mod Examples
 pub mod InMemory
+pub mod Inductions
 pub mod Problems
 pub mod Proofs
 pub mod Refutations
@@ -11,3 +12,4 @@ pub mod Run
 pub mod Searches
 pub mod Steps
 pub mod Told
+pub mod Translations

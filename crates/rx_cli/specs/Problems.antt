@@ -1,5 +1,6 @@
 -- The front end and the translation as stages: from a text to the problem that two of its functions
--- pose, which is their rules and the goal that their entries are equal.
+-- pose, which is their rules and the goal that their entries are equal. And the reading of a rule
+-- text as a stage: the problem that it poses is its rules and its equation.
 use Rattle.std.specs.Prelude.{◌≡◌, ◌⊎◌, true, false, ℕ, List, [], Option, Some, None}
 use Rattle.c_ast.specs.declared.expr.Expr.{Expr}
 use Rattle.c_front.specs.declared.pairs.Compared.{Compared}
@@ -11,7 +12,11 @@ use Rattle.c_front.specs.Front.{count_in}
 use Rattle.c_front.specs.Stages.{before}
 use Rattle.rx_command.specs.Commands.{Functions}
 use Rattle.rx_plain.specs.Formed.{Formed, pure}
+use Rattle.rx_lines.specs.Orders.{IsFirstBad}
 use Rattle.rx_row.specs.declared.row.Row.{Row}
+use Rattle.rx_rulefile.specs.Places.{rule_order}
+use Rattle.rx_rulefile.specs.RuleTexts.{IsRuleText, first_unmade}
+use Rattle.rx_term.specs.declared.rule.Equation.{Equation}
 use Rattle.rx_term.specs.declared.rule_set.RuleParts.{RuleParts}
 use Rattle.rx_term.specs.declared.term.Sym.{Sym}
 use Rattle.rx_code.specs.Preconditions.{pre_rows}
@@ -20,6 +25,10 @@ use Rattle.rx_cli.specs.declared.problems.Problem.{Problem}
 use Rattle.rx_report.specs.declared.verdicts.Verdict.{Verdict}
 use Rattle.rx_report.specs.declared.verdicts.Verdict.TheVariants as Said
 use Rattle.rx_report.specs.Verdicts.{verdict_of}
+
+-- the most bytes of a source
+abbrev pub longest_source : ℕ
+longest_source = 1048576
 
 -- the front end, whose refusals are verdicts
 abbrev pub front_stage : Functions → List ℕ → Next Verdict Compared → Type 0
@@ -70,3 +79,14 @@ problem_stage compared (Goes problem) = IsProblem compared problem
 -- the problem that two functions of a text pose, or why there is none
 abbrev pub asked : Functions → List ℕ → Next Verdict Problem → Type 0
 asked f = before (front_stage f) problem_stage
+
+-- the problem that a rule text poses; or the first line with which no rule text begins; or the first
+-- rule that isn't well made, where the number of rules stands for an equation that doesn't fit
+abbrev pub posed : List ℕ → Next Verdict Problem → Type 0
+posed source (Ends verdict) =
+    ((number : ℕ) × IsFirstBad rule_order source number × (verdict ≡ Said.RuleLine number))
+    ⊎ ((parts : RuleParts) × (goal : Equation) × (rule : ℕ) × IsRuleText source parts goal
+    × (first_unmade parts goal ≡ Some rule) × (verdict ≡ Said.NotMade rule))
+posed source (Goes problem) =
+    IsRuleText source problem.rules problem.goal
+    × (first_unmade problem.rules problem.goal ≡ None)

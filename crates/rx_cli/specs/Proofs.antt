@@ -1,7 +1,7 @@
 -- What is said of a text where a proof is searched for.
 use Rattle.std.specs.Prelude.{◌≡◌, ◌⊎◌, ℕ, List, map, Some}
 use Rattle.c_front.specs.declared.stages.Next.TheVariants.{Ends, Goes}
-use Rattle.rx_command.specs.Commands.{Compare, Functions, Prove, command_of}
+use Rattle.rx_command.specs.Commands.{Command, Compare, Find, Functions, Prove, Rules, command_of}
 use Rattle.rx_command.specs.declared.command.Effort.{Effort}
 use Rattle.rx_io.specs.Outside.{Names}
 use Rattle.rx_log.specs.Acceptance.{IsAccepted}
@@ -16,7 +16,7 @@ use Rattle.rx_report.specs.declared.ends.Status.TheVariants as Ends
 use Rattle.rx_cli.specs.declared.problems.Problem.{Problem}
 use Rattle.rx_report.specs.declared.verdicts.Verdict.{Verdict}
 use Rattle.rx_report.specs.declared.verdicts.Verdict.TheVariants as Said
-use Rattle.rx_cli.specs.Problems.{asked}
+use Rattle.rx_cli.specs.Problems.{asked, posed}
 use Rattle.rx_cli.specs.Searches.{sought}
 
 -- the text of a log that is accepted for the problem, and whose steps are these moves
@@ -48,17 +48,25 @@ IsProved f effort source answer =
     ((verdict : Verdict) × asked f source (Ends verdict) × (answer ≡ Line verdict))
     ⊎ ((problem : Problem) × asked f source (Goes problem) × OnProblem problem effort answer)
 
--- both texts are those of accepted logs, with the same moves and for the same problem: the one
--- that the words pose about what is held
+-- the command asks for a search of this effort, and what is held poses this problem for it
+abbrev pub Poses : Names → Command → Problem → Effort → Type 0
+Poses names (Compare (Prove f wanted)) problem effort =
+    (source : List ℕ) × (names f.file ≡ Some source) × asked f source (Goes problem)
+    × (wanted ≡ effort)
+Poses names (Rules (Find file wanted)) problem effort =
+    (source : List ℕ) × (names file ≡ Some source) × posed source (Goes problem)
+    × (wanted ≡ effort)
+Poses names other problem effort = ⊥
+
+-- both texts are those of accepted logs, with the same moves and for the same problem: the one that
+-- the words, which ask for a search, pose about what is held
 pub record AreProofs (names : Names) (words : List (List ℕ)) (t v : List ℕ) : Type 0 where
-  pub functions : Functions
+  pub command : Command
   pub effort : Effort
-  pub source : List ℕ
   pub problem : Problem
   pub moves : List Move
-  pub asks : command_of words ≡ Some (Compare (Prove functions effort))
-  pub held : names functions.file ≡ Some source
-  pub is_asked : asked functions source (Goes problem)
+  pub asks : command_of words ≡ Some command
+  pub poses : Poses names command problem effort
   pub is_closed : sought problem.rules problem.goal effort.depth effort.budget ≡ Closed moves
   pub first : IsProofText problem moves t
   pub second : IsProofText problem moves v

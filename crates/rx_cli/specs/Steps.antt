@@ -1,6 +1,7 @@
 -- What the functions inside promise to one another. Nothing that a caller of the run reads depends
 -- on these.
-use Rattle.std.specs.Prelude.{◌≡◌, ◌≢◌, ◌<◌, ◌≤◌, ◌^◌, ◌⊎◌, length, true, false, ⊤, ℕ, Bool, List, Option, Some, None, Vec, map, slice_get}
+use Rattle.std.specs.Prelude.{◌≡◌, ◌≢◌, ◌<◌, ◌≤◌, ◌^◌, ◌⊎◌, length, true, false, ⊤, ℕ, Bool, List, Option, Some, None, Vec, map, slice_get, nat_lt, MatchBool}
+use Rattle.std.specs.List.{list_all}
 use Rattle.c_ast.specs.declared.expr.Expr.{Expr}
 use Rattle.c_ast.specs.RowForms.{is_row_form}
 use Rattle.c_ast.specs.Scoped.{is_scoped, parameter_counts}
@@ -10,7 +11,7 @@ use Rattle.c_front.specs.declared.stages.Next.TheVariants.{Ends, Goes}
 use Rattle.c_front.specs.Front.{count_in}
 use Rattle.rx_code.specs.Translation.{IsBeyond, IsTranslation}
 use Rattle.rx_io.specs.Outside.{HoldsBytes, HoldsMore, IsMissing, Names}
-use Rattle.rx_command.specs.Commands.{Check, Comparison, Functions, Prove, Refute}
+use Rattle.rx_command.specs.Commands.{Check, Comparison, Find, Functions, Induction, Prove, Refute, Replay}
 use Rattle.rx_translate.specs.declared.translation.Translation.{Translation}
 use Rattle.rx_plain.specs.Formed.{Formed}
 use Rattle.rx_log.specs.declared.log.Log.{Log}
@@ -18,6 +19,8 @@ use Rattle.rx_moves.specs.Moves.{Move, move_of}
 use Rattle.rx_search.specs.declared.search_end.SearchEnd.{SearchEnd}
 use Rattle.rx_search.specs.declared.search_end.SearchEnd.TheVariants as search_end
 use Rattle.std.specs.declared.alloc.Global.{Global}
+use Rattle.rx_report.specs.declared.answer.Answer.{Answer}
+use Rattle.rx_report.specs.declared.answer.Answer.TheVariants.{Line, RuleText}
 use Rattle.rx_report.specs.declared.verdicts.Verdict.{Verdict}
 use Rattle.rx_report.specs.declared.verdicts.Verdict.TheVariants as Said
 use Rattle.rx_cli.specs.Answers.{IsHeld}
@@ -25,7 +28,11 @@ use Rattle.rx_check.specs.declared.check_end.CheckEnd.TheVariants as check_end
 use Rattle.rx_logfile.specs.declared.file_end.FileEnd.{FileEnd}
 use Rattle.rx_logfile.specs.declared.file_end.FileEnd.TheVariants as file_end
 use Rattle.rx_cli.specs.declared.problems.Problem.{Problem}
-use Rattle.rx_cli.specs.Checks.{IsChecked, OnText, longest_log}
+use Rattle.rx_cli.specs.Checks.{IsChecked, OnRead, OnText, longest_log}
+use Rattle.rx_cli.specs.Inductions.{IsReplayed}
+use Rattle.rx_cli.specs.Problems.{longest_source}
+use Rattle.rx_rulefile.specs.RuleLines.{lines}
+use Rattle.rx_rulefile.specs.RuleTexts.{IsRuleText, rule_lines}
 use Rattle.rx_report.specs.Texts.{IsReportableVerdict}
 
 -- a precondition, where there is one, is a row form
@@ -70,6 +77,12 @@ abbrev pub IsNotDeep : Comparison → Type 0
 IsNotDeep (Prove f effort) = effort.depth ≤ 12
 IsNotDeep (Check f log) = ⊤
 IsNotDeep (Refute f extent) = ⊤
+
+-- a search for a proof of the equation of a rule text that is asked for has at most 12 choices on a
+-- path
+abbrev pub IsInductionNotDeep : Induction → Type 0
+IsInductionNotDeep (Find file effort) = effort.depth ≤ 12
+IsInductionNotDeep (Replay file log) = ⊤
 
 -- the moves of a log's steps
 abbrev pub moves_of : Log → List Move
@@ -129,9 +142,37 @@ pub record ChecksRead (held : Option Names) (fault : Type 0) (name : List ℕ) (
   pub reads : Reads held fault name longest_log Said.LongLog next
   pub on : OnNext problem next verdict
 
+-- what is said of the log that is under a name, or that a call on the files found a fault
+abbrev pub SaidOfNamed : Option Names → Type 0 → List ℕ → Problem → Verdict → Type 0
+SaidOfNamed held fault name problem verdict =
+    ((given : Option (List ℕ)) × IsHeld held name given × OnRead problem given verdict)
+    ⊎ (fault × (verdict ≡ Said.ReadFault))
+
 -- what is said of a text and a log that is read under a name, or that a call on the files found a
 -- fault
 abbrev pub ChecksNamed : Option Names → Type 0 → Functions → List ℕ → List ℕ → Verdict → Type 0
 ChecksNamed held fault f source name verdict =
     ((given : Option (List ℕ)) × IsHeld held name given × IsChecked f source given verdict)
     ⊎ (fault × (verdict ≡ Said.ReadFault))
+
+-- what is said of a rule text and a log that is read under a name, or that a call on the files found
+-- a fault
+abbrev pub ReplaysNamed : Option Names → Type 0 → List ℕ → List ℕ → Verdict → Type 0
+ReplaysNamed held fault source name verdict =
+    ((given : Option (List ℕ)) × IsHeld held name given × IsReplayed source given verdict)
+    ⊎ (fault × (verdict ≡ Said.ReadFault))
+
+-- ---- writing
+
+-- the rules and the goal keep the limits of rule texts
+abbrev pub is_writable : Problem → Bool
+is_writable problem = list_all lines.in_range (rule_lines problem.rules problem.goal)
+
+-- the answer to a problem by its text, which it has where it keeps the limits
+abbrev pub WritesText : Problem → Answer → Type 0
+WritesText problem answer =
+    MatchBool (is_writable problem)
+    ((text : List ℕ) × IsRuleText text problem.rules problem.goal
+    × MatchBool (nat_lt longest_source (length text)) (answer ≡ Line Said.LargeRules)
+    (answer ≡ RuleText text))
+    (answer ≡ Line Said.LargeRules)

@@ -5,7 +5,7 @@ use Rattle.rx_report.specs.Ends.{status_in, status_of}
 use Rattle.rx_report.specs.Reports.{text_in}
 use Rattle.rx_report.specs.Texts.{IsReportableVerdict, text_of}
 use Rattle.rx_report.specs.declared.answer.Answer.{Answer}
-use Rattle.rx_report.specs.declared.answer.Answer.TheVariants.{Line, Proof, Found}
+use Rattle.rx_report.specs.declared.answer.Answer.TheVariants.{Line, Proof, RuleText, Found}
 use Rattle.rx_report.specs.declared.ends.Status.{Status}
 use Rattle.rx_report.specs.declared.ends.Status.TheVariants as Ends
 use Rattle.rx_report.specs.declared.verdicts.Verdict.{Verdict}
@@ -15,6 +15,7 @@ use Rattle.rx_cli.specs.declared.top.Ending.{Ending}
 abbrev pub line_in : Answer → Option Verdict
 line_in (Line verdict) = Some verdict
 line_in (Proof text) = None
+line_in (RuleText text) = None
 line_in (Found found) = None
 
 -- the verdict has a line, the status is the verdict's, and the line is what was written
@@ -23,7 +24,7 @@ pub record IsLine (old new : Option (List ℕ)) (status : Status) (verdict : Ver
   pub status_is : status ≡ status_of verdict
   pub written : Appends old new (text_of verdict)
 
--- another answer was reported whole: a log, or a comparison over points
+-- another answer was reported whole: a log, a rule text, or a comparison over points
 pub record IsOther (old new : Option (List ℕ)) (status : Status) : Type 0 where
   pub answer : Answer
   pub no_line : line_in answer ≡ None

@@ -1,6 +1,7 @@
 //! Laws of what is reported.
-ghost use Rattle.std.specs.Prelude.{◌≡◌, ◌≢◌, ◌≤◌, ℕ, List, Some, length};
-ghost use Rattle.rx_command.specs.Commands.{Check, Compare, Functions, Prove, command_of};
+ghost use Rattle.std.specs.Prelude.{◌≡◌, ◌≢◌, ◌≤◌, ℕ, List, Option, Some, length};
+ghost use Rattle.c_front.specs.declared.stages.Next.TheVariants.{Goes};
+ghost use Rattle.rx_command.specs.Commands.{Check, Compare, Find, Functions, Prove, Replay, Rules, command_of};
 ghost use Rattle.rx_command.specs.declared.command.Effort.{Effort};
 ghost use Rattle.rx_io.specs.Outside.{Names, Rose};
 ghost use Rattle.rx_report.specs.declared.ends.Status.{Status};
@@ -10,7 +11,10 @@ ghost use Rattle.rx_report.specs.declared.verdicts.Verdict.{Verdict};
 ghost use Rattle.rx_report.specs.declared.verdicts.Verdict.TheVariants as said;
 ghost use Rattle.rx_cli.specs.Agreement.{Agrees};
 ghost use Rattle.rx_cli.specs.Answers.{AnswersSoundly};
-ghost use Rattle.rx_cli.specs.Checks.{longest_log};
+ghost use Rattle.rx_cli.specs.Checks.{IsChecked, longest_log};
+ghost use Rattle.rx_cli.specs.Inductions.{IsReplayed, of_induction};
+ghost use Rattle.rx_cli.specs.Problems.{asked, posed};
+ghost use Rattle.rx_cli.specs.declared.problems.Problem.{Problem};
 ghost use Rattle.rx_cli.specs.Proofs.{AreOne};
 ghost use Rattle.rx_cli.specs.Refutations.{Refutes};
 ghost use Rattle.rx_cli.specs.Run.{Reports};
@@ -67,9 +71,47 @@ pub fn written_logs_are_accepted()
         Reports (Some after) ⊥ checking ends.Equivalent (text_of said.Equivalent) }
 {}
 
+/// What a search proves of a rule text, a replay accepts. Words that ask for a proof of its equation
+/// are reported with a status of yes and a text of at most 67,108,864 bytes. Then words that ask for
+/// a replay for the same rule text are reported with INDUCTIVE, where the same rule text is held
+/// and, under the name of the log, this text (`accepted`); so too where a call of the search found a
+/// fault on the way (`any`). A law; it does nothing.
+pub fn written_inductions_are_accepted()
+    ensures accepted { (before after : Names) (file : List ℕ) (effort : Effort)
+        (name text : List ℕ) (searching replaying : List (List ℕ)) →
+        command_of searching ≡ Some (Rules (Find file effort)) →
+        command_of replaying ≡ Some (Rules (Replay file name)) →
+        Reports (Some before) ⊥ searching ends.Equivalent text →
+        after file ≡ before file → after name ≡ Some text → length text ≤ longest_log →
+        Reports (Some after) ⊥ replaying ends.Equivalent (text_of said.Inductive) }
+    ensures any { (before after : Names) (file : List ℕ) (effort : Effort)
+        (name text : List ℕ) (searching replaying : List (List ℕ))
+        (faults_before faults_now : ℕ) →
+        command_of searching ≡ Some (Rules (Find file effort)) →
+        command_of replaying ≡ Some (Rules (Replay file name)) →
+        Reports (Some before) (Rose faults_before faults_now) searching ends.Equivalent text →
+        after file ≡ before file → after name ≡ Some text → length text ≤ longest_log →
+        Reports (Some after) ⊥ replaying ends.Equivalent (text_of said.Inductive) }
+{}
+
 /// Two functions of a text that agree have no counterexample: where both return alike on all
 /// integers that meet the precondition, there are none of these on which they return other
 /// outcomes. A law; it does nothing.
 pub fn counterexamples_exclude_proofs()
     ensures { (f : Functions) (source : List ℕ) → Agrees source f → Refutes source f → ⊥ }
+{}
+
+/// A rule text that poses what two functions pose, as `translate` writes it, is judged by a log as
+/// these are: what `check` says of the log, `rules` says, but for INDUCTIVE in the place of
+/// EQUIVALENT (`alike`); and what `rules` says comes of what `check` says (`back`). A law; it does
+/// nothing.
+pub fn translated_rules_are_judged_alike()
+    ensures alike { (f : Functions) (source text : List ℕ) (problem : Problem)
+        (log : Option (List ℕ)) (v : Verdict) → asked f source (Goes problem) →
+        posed text (Goes problem) → IsChecked f source log v →
+        IsReplayed text log (of_induction v) }
+    ensures back { (f : Functions) (source text : List ℕ) (problem : Problem)
+        (log : Option (List ℕ)) (w : Verdict) → asked f source (Goes problem) →
+        posed text (Goes problem) → IsReplayed text log w →
+        (v : Verdict) × IsChecked f source log v × (w ≡ of_induction v) }
 {}

@@ -5,15 +5,20 @@ mod answers;
 mod check;
 mod examples;
 mod in_memory;
+mod inductions;
 mod laws;
 mod problems;
 mod proving;
 mod refuting;
 mod top;
+mod translations;
 
 pub use examples::demo;
 pub use in_memory::run_in_memory;
-pub use laws::{counterexamples_exclude_proofs, words_have_one_report, written_logs_are_accepted};
+pub use laws::{
+    counterexamples_exclude_proofs, translated_rules_are_judged_alike, words_have_one_report,
+    written_inductions_are_accepted, written_logs_are_accepted,
+};
 pub use rx_plain::NoMemory;
 pub use rx_report::{Status, Verdict, report};
 pub use top::{Ending, run, run_told};

@@ -22,12 +22,13 @@ use rx_term::{Equation, RuleSet};
 use rx_translate::{TranslateEnd, Translation, goal_of, rows_of_pre, rules_of};
 use std::alloc::Global;
 
-/// A rule set and a goal: whether both sides of the goal are equal by the rules.
+/// A rule set and a goal: whether both sides of the goal are equal by the rules. It is of two
+/// functions, or of a rule text.
 #[derive(Drop)]
 pub struct Problem {
-    /// The rules of both functions.
+    /// The rules of both functions, or those of the text.
     pub rules: RuleSet,
-    /// Their entries on the same variables, under the rows of the precondition.
+    /// Their entries on the same variables, under the rows of the precondition; or the equation.
     pub goal: Equation,
 }
 

@@ -151,7 +151,7 @@ fn search_on<S: FnMut(&Constraint) -> Result<Option<Cert>, FmEnd>>(
 }
 
 /// Searches for a proof that solves a problem: the stated search comes first.
-fn search_by<S: FnMut(&Constraint) -> Result<Option<Cert>, FmEnd>>(
+pub(crate) fn search_by<S: FnMut(&Constraint) -> Result<Option<Cert>, FmEnd>>(
     alloc: Global,
     problem: &Problem,
     effort: Effort,
@@ -210,7 +210,7 @@ where
 }
 
 /// How many answers of the refuter are kept.
-const CACHED_ANSWERS: u32 = 4096;
+pub(crate) const CACHED_ANSWERS: u32 = 4096;
 
 /// Searches for a proof that solves a problem.
 fn on_problem(alloc: Global, problem: &Problem, effort: Effort) -> Result<Answer, NoMemory>

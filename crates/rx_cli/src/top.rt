@@ -29,15 +29,15 @@ fn line_in(answer: &Answer) -> Option<Verdict>
 {
     match answer {
         Answer::Line(verdict) => Some(*verdict),
-        Answer::Proof(_) | Answer::Found(_) => None,
+        Answer::Proof(_) | Answer::RuleText(_) | Answer::Found(_) => None,
     }
 }
 
 /// Runs the program as `run` does, and also answers what was reported, for a message beside the
 /// report (`told`).
 ///
-/// The verdict is that whose line was put whole. None is answered where a log or a comparison over
-/// points was put, or nothing, or only a part of the report.
+/// The verdict is that whose line was put whole. None is answered where a log, a rule text or a
+/// comparison over points was put, or nothing, or only a part of the report.
 pub fn run_told<F: Files, O: Sink>(
     alloc: Global,
     words: &[String],

@@ -30,7 +30,8 @@ pub data Comparison : Type 0 where
   Check : Functions → List ℕ → Comparison
   Refute : Functions → Extent → Comparison
 
--- to search for a proof of the equation of a rule text, or to replay the proof in a log
+-- to search for a proof of the equation of the rule text in a file, or to replay the proof in the log
+-- with the second name
 pub data Induction : Type 0 where
   Find : List ℕ → Effort → Induction
   Replay : List ℕ → List ℕ → Induction
@@ -162,7 +163,7 @@ has_no_effort rows = is_absent (codes "depth") rows && is_absent (codes "budget"
 abbrev pub has_no_extent : List Row → Bool
 has_no_extent rows = is_absent (codes "box") rows && is_absent (codes "rounds") rows
 
--- neither of these four
+-- none of these four
 abbrev pub has_no_numbers : List Row → Bool
 has_no_numbers rows = has_no_effort rows && has_no_extent rows
 

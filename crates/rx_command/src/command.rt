@@ -283,10 +283,7 @@ fn rules_of<'a>(
 }
 
 /// The rules of two functions are written, where no log is given.
-fn translate_of<'a>(
-    functions: Option<Functions<'a>>,
-    log: Option<&'a str>,
-) -> Option<Command<'a>>
+fn translate_of<'a>(functions: Option<Functions<'a>>, log: Option<&'a str>) -> Option<Command<'a>>
     ensures { option_map command_view result ≡
         spec.translate_of (option_map functions_view functions.entry) (bytes_of log.entry) }
 {

@@ -52,6 +52,7 @@ fn other_verdict(word: &str, number: u32) -> Option<Verdict>
         "read-fault" => Some(Verdict::ReadFault),
         "large" => Some(Verdict::LargeTranslate),
         "large-search" => Some(Verdict::LargeSearch),
+        "large-rules" => Some(Verdict::LargeRules),
         "no-function" => Some(Verdict::NoFunction(number.min(255) as u8)),
         "arity" => Some(Verdict::Arity(number, 16)),
         _ => None,

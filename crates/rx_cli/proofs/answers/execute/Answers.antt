@@ -1,7 +1,7 @@
 -- What the words ask for is answered.
 use Rattle.std.proofs.Common.{◌≡◌, None, Option, Some, inl, map, string_bytes, subst}
 use Rattle.std.proofs.lemmas.Result.{IfOk-weaker}
-use Rattle.rx_command.specs.Commands.{Command, Compare, Demo, command_of, comparison_view}
+use Rattle.rx_command.specs.Commands.{Command, Compare, Demo, Rules, Translate, command_of, comparison_view, functions_view, induction_view}
 use Rattle.rx_io.specs.Outside.{Rose}
 use Rattle.rx_cli.specs.Answers.{AnswersOrFails}
 use Rattle.rx_cli.proofs.AnswerLemmas.{answers_usage}
@@ -115,3 +115,85 @@ returns-in-Some-Compare-clause-different g c =
     (Rose (g.F.Files.faults c.args.files.now) (g.F.Files.faults c.execute_comparison.new.files)) o
     answer) said answered))
     c.execute_comparison.ensures.answer
+
+pub execute_rules-requires : goal.execute_rules-requires
+execute_rules-requires g c =
+    let said : Some (Rules (induction_view c.in-Some-Rules.task)) ≡
+    command_of (map string_bytes c.args.words.now) =
+    rw c.in-Some-Rules.field-0-is at (rw c.in-Some-Rules.is at
+    c.in_ok-command_of.ensures.command) in
+    command_allowed (map string_bytes c.args.words.now)
+    (Rules (induction_view c.in-Some-Rules.task)) said
+
+pub returns-in-Some-Rules-clause-sound : goal.returns-in-Some-Rules-clause-sound
+returns-in-Some-Rules-clause-sound g c =
+    let said : Some (Rules (induction_view c.in-Some-Rules.task)) ≡
+    command_of (map string_bytes c.args.words.now) =
+    rw c.in-Some-Rules.field-0-is at (rw c.in-Some-Rules.is at
+    c.in_ok-command_of.ensures.command) in
+    IfOk-weaker c.execute_rules.result _ _
+    (λ answer answered. answered_equal (g.F.Files.held c.args.files.now)
+    (map string_bytes c.args.words.now)
+    (Rose (g.F.Files.faults c.args.files.now) (g.F.Files.faults c.execute_rules.new.files))
+    answer
+    (subst (λ o. AnswersOrFails (g.F.Files.held c.args.files.now)
+    (Rose (g.F.Files.faults c.args.files.now) (g.F.Files.faults c.execute_rules.new.files)) o
+    answer) said answered))
+    c.execute_rules.ensures.answer
+
+pub returns-in-Some-Rules-clause-different : goal.returns-in-Some-Rules-clause-different
+returns-in-Some-Rules-clause-different g c =
+    let said : Some (Rules (induction_view c.in-Some-Rules.task)) ≡
+    command_of (map string_bytes c.args.words.now) =
+    rw c.in-Some-Rules.field-0-is at (rw c.in-Some-Rules.is at
+    c.in_ok-command_of.ensures.command) in
+    IfOk-weaker c.execute_rules.result _ _
+    (λ answer answered. answered_different (g.F.Files.held c.args.files.now)
+    (map string_bytes c.args.words.now)
+    (Rose (g.F.Files.faults c.args.files.now) (g.F.Files.faults c.execute_rules.new.files))
+    answer
+    (subst (λ o. AnswersOrFails (g.F.Files.held c.args.files.now)
+    (Rose (g.F.Files.faults c.args.files.now) (g.F.Files.faults c.execute_rules.new.files)) o
+    answer) said answered))
+    c.execute_rules.ensures.answer
+
+pub execute_translate-requires : goal.execute_translate-requires
+execute_translate-requires g c =
+    let said : Some (Translate (functions_view c.in-Some-Translate.functions)) ≡
+    command_of (map string_bytes c.args.words.now) =
+    rw c.in-Some-Translate.field-0-is at (rw c.in-Some-Translate.is at
+    c.in_ok-command_of.ensures.command) in
+    command_allowed (map string_bytes c.args.words.now)
+    (Translate (functions_view c.in-Some-Translate.functions)) said
+
+pub returns-in-Some-Translate-clause-sound : goal.returns-in-Some-Translate-clause-sound
+returns-in-Some-Translate-clause-sound g c =
+    let said : Some (Translate (functions_view c.in-Some-Translate.functions)) ≡
+    command_of (map string_bytes c.args.words.now) =
+    rw c.in-Some-Translate.field-0-is at (rw c.in-Some-Translate.is at
+    c.in_ok-command_of.ensures.command) in
+    IfOk-weaker c.execute_translate.result _ _
+    (λ answer answered. answered_equal (g.F.Files.held c.args.files.now)
+    (map string_bytes c.args.words.now)
+    (Rose (g.F.Files.faults c.args.files.now) (g.F.Files.faults c.execute_translate.new.files))
+    answer
+    (subst (λ o. AnswersOrFails (g.F.Files.held c.args.files.now)
+    (Rose (g.F.Files.faults c.args.files.now) (g.F.Files.faults c.execute_translate.new.files)) o
+    answer) said answered))
+    c.execute_translate.ensures.answer
+
+pub returns-in-Some-Translate-clause-different : goal.returns-in-Some-Translate-clause-different
+returns-in-Some-Translate-clause-different g c =
+    let said : Some (Translate (functions_view c.in-Some-Translate.functions)) ≡
+    command_of (map string_bytes c.args.words.now) =
+    rw c.in-Some-Translate.field-0-is at (rw c.in-Some-Translate.is at
+    c.in_ok-command_of.ensures.command) in
+    IfOk-weaker c.execute_translate.result _ _
+    (λ answer answered. answered_different (g.F.Files.held c.args.files.now)
+    (map string_bytes c.args.words.now)
+    (Rose (g.F.Files.faults c.args.files.now) (g.F.Files.faults c.execute_translate.new.files))
+    answer
+    (subst (λ o. AnswersOrFails (g.F.Files.held c.args.files.now)
+    (Rose (g.F.Files.faults c.args.files.now) (g.F.Files.faults c.execute_translate.new.files)) o
+    answer) said answered))
+    c.execute_translate.ensures.answer

@@ -3,7 +3,7 @@ use Rattle.rx_io.specs.Outside.{Rose}
 use Rattle.std.proofs.lemmas.Result.{IfOk-weaker}
 use Rattle.c_front.specs.declared.stages.Next.TheVariants.{Ends, Goes}
 use Rattle.rx_report.specs.declared.verdicts.Verdict.TheVariants as Said
-use Rattle.rx_cli.specs.Answers.{longest_source}
+use Rattle.rx_cli.specs.Problems.{longest_source}
 use Rattle.rx_cli.specs.Steps.{Reads}
 use Rattle.rx_cli.proofs.AnswerLemmas.{answers_refuted, answers_unread}
 use Rattle.rx_cli.proofs.answers.execute_refute.Goals as goal
