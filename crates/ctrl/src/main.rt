@@ -7,8 +7,8 @@ ghost use Rattle.rx_cli.specs.Answers.{AreEqual, IsRefutedBy};
 ghost use Rattle.rx_report.specs.Ends.{code_of};
 ghost use Rattle.rx_report.specs.Texts.{IsReportableVerdict};
 
-use rx_cli::{Ending, Status, run_told};
-use rx_messages::explain;
+use rx_cli::{Ending, Problem, Status, Verdict, problem_of_words, run_told};
+use rx_messages::{Posed, explain};
 use rx_system::{SystemFiles, SystemOutput};
 use std::env;
 use std::io::ErrorKind;
@@ -45,11 +45,24 @@ fn run_words(rt: &HostRuntime, words: &[String]) -> Ending
     run_told(rt.alloc(), words, &mut files, &mut out)
 }
 
+/// The problem that the words pose, where what was reported is about a log; none where there is no
+/// memory.
+fn posed_by(rt: &HostRuntime, words: &[String], ending: &Ending) -> Option<Posed> {
+    let Some(Verdict::Check(_)) = ending.verdict else {
+        return None;
+    };
+    let mut files = SystemFiles::new(rt);
+    let problem = problem_of_words(rt.alloc(), words, &mut files).ok()??;
+    let Problem { rules, goal } = problem;
+    Some(Posed { rules, goal })
+}
+
 /// Says on standard error what a person needs, if the run of these words ended so. That nothing
 /// more can be said, or nothing at all, changes neither the report nor the exit status.
 fn explain_words(rt: &HostRuntime, words: &[String], ending: Ending)
     requires { MatchOption ending.verdict ⊤ IsReportableVerdict }
 {
+    let posed = posed_by(rt, words, &ending);
     let mut files = SystemFiles::new(rt);
     let printer = rt.stderr();
     let mut err = SystemOutput::new(&printer);
@@ -58,6 +71,7 @@ fn explain_words(rt: &HostRuntime, words: &[String], ending: Ending)
         words,
         ending.status,
         ending.verdict,
+        posed.as_ref(),
         &mut files,
         &mut err,
     );

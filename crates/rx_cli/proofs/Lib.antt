@@ -10,6 +10,7 @@ pub mod LogFaults
 pub mod LogFileVerdicts
 pub mod MemoryLemmas
 pub mod OneReport
+pub mod PosedLemmas
 pub mod Proved
 pub mod Ready
 pub mod Refuted

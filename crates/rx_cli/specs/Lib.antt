@@ -5,6 +5,7 @@ pub mod Completeness
 pub mod Examples
 pub mod InMemory
 pub mod Inductions
+pub mod Posed
 pub mod Problems
 pub mod Proofs
 pub mod Refutations

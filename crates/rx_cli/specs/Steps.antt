@@ -30,7 +30,7 @@ use Rattle.rx_logfile.specs.declared.file_end.FileEnd.TheVariants as file_end
 use Rattle.rx_cli.specs.declared.problems.Problem.{Problem}
 use Rattle.rx_cli.specs.Checks.{IsChecked, OnRead, OnText, longest_log}
 use Rattle.rx_cli.specs.Inductions.{IsReplayed}
-use Rattle.rx_cli.specs.Problems.{longest_source}
+use Rattle.rx_cli.specs.Problems.{asked, longest_source}
 use Rattle.rx_rulefile.specs.RuleLines.{lines}
 use Rattle.rx_rulefile.specs.RuleTexts.{IsRuleText, rule_lines}
 use Rattle.rx_report.specs.Texts.{IsReportableVerdict}
@@ -154,6 +154,11 @@ abbrev pub ChecksNamed : Option Names → Type 0 → Functions → List ℕ → 
 ChecksNamed held fault f source name verdict =
     ((given : Option (List ℕ)) × IsHeld held name given × IsChecked f source given verdict)
     ⊎ (fault × (verdict ≡ Said.ReadFault))
+
+-- what a text poses to two functions: a problem, or none
+abbrev pub PosesOf : Functions → List ℕ → Option Problem → Type 0
+PosesOf f source None = (verdict : Verdict) × asked f source (Ends verdict)
+PosesOf f source (Some problem) = asked f source (Goes problem)
 
 -- what is said of a rule text and a log that is read under a name, or that a call on the files found
 -- a fault

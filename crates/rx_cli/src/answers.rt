@@ -29,7 +29,7 @@ const LONGEST_SOURCE: u32 = 1_048_576;
 
 /// The bytes of the file with this name, or why they can't be had: there are more than a source may
 /// have, or reading failed.
-fn read_source<F: Files>(
+pub(crate) fn read_source<F: Files>(
     alloc: Global,
     name: &str,
     files: &mut F,

@@ -7,6 +7,7 @@ mod examples;
 mod in_memory;
 mod inductions;
 mod laws;
+mod posed;
 mod problems;
 mod proving;
 mod refuting;
@@ -19,6 +20,8 @@ pub use laws::{
     counterexamples_exclude_proofs, translated_rules_are_judged_alike, words_have_one_report,
     written_inductions_are_accepted, written_logs_are_accepted,
 };
+pub use posed::problem_of_words;
+pub use problems::Problem;
 pub use rx_plain::NoMemory;
 pub use rx_report::{Status, Verdict, report};
 pub use top::{Ending, run, run_told};

@@ -1,51 +1,72 @@
--- Nothing is written where the log can't be read.
-use Rattle.std.specs.Prelude.{◌≡◌, ◌≤◌, ℕ, List, Option, Some, None, Err}
-use Rattle.std.proofs.Common.{arith, inl, inr, refl, subst}
+-- Nothing is written where the log can't be read, or is another.
+use Rattle.std.specs.Prelude.{◌≡◌, ◌≤◌, ℕ, List, Option, Some, None, Err, Vec}
+use Rattle.std.specs.declared.alloc.Global.{Global}
+use Rattle.std.proofs.Common.{inl, inr, refl, subst}
 use Rattle.std.specs.Io.KnownBytes.{Keeps}
 use Rattle.rx_io.specs.Outside.{Names, Rose}
 use Rattle.rx_report.specs.declared.ends.Status.{Status}
 use Rattle.rx_report.specs.declared.verdicts.Verdict.{Verdict}
 use Rattle.rx_messages.specs.Asked.{Asked}
-use Rattle.rx_messages.specs.Explaining.{Explains, IsUnreadAs}
-use Rattle.rx_messages.specs.Logs.{longest_log}
-use Rattle.rx_messages.specs.Steps.{FindsFacts}
+use Rattle.rx_messages.specs.Explaining.{Explains, HasChanged, HasOtherLog, IsRead, IsUnread, name_read}
+use Rattle.rx_messages.specs.Logs.{AreFacts, Facts, longest_log, step_wanted}
+use Rattle.rx_messages.specs.Messages.{message}
+use Rattle.rx_messages.specs.Steps.{FindsFacts, MakesSome}
+use Rattle.rx_messages.specs.declared.logs.Posed.{Posed}
 use Rattle.rx_messages.specs.declared.silences.Silence.{Silence}
 use Rattle.rx_messages.specs.declared.silences.Silence.TheVariants as silence
-
-rose_before : (start before now : ℕ) → start ≤ before → Rose before now → Rose start now
-rose_before start before now later rose = omega (arith, later, rose)
-
-unread_before : (held : Option Names) (start before now most : ℕ) (file : List ℕ) →
-    start ≤ before → IsUnreadAs held (Rose before now) most file →
-    IsUnreadAs held (Rose start now) most file
-unread_before held start before now most file later (inl rose) =
-    inl (rose_before start before now later rose)
-unread_before held start before now most file later (inr other) = inr other
 
 kept : (bytes : Option (List ℕ)) → Keeps bytes bytes
 kept None = tt
 kept (Some bytes) = refl
 
--- what a call on the log says, after calls on the text
+-- what calls on the log say, after calls on the text
 pub no_facts : (held mid : Option Names) (start before now : ℕ) (write_fault : Type 0)
-    (asked other : Asked) (status : Status) (verdict : Option Verdict) (put : Option (List ℕ))
-    (end : Silence) → mid ≡ held → start ≤ before → other ≡ asked →
-    FindsFacts mid (Rose before now) other.log verdict (Err end) →
-    Explains held (Rose start now) write_fault asked status verdict put put (Err end)
-no_facts held mid start before now write_fault asked other status verdict put silence.NoMemory
+    (asked other : Asked) (posed : Option Posed) (status : Status) (verdict : Option Verdict)
+    (put : Option (List ℕ)) (end : Silence) → mid ≡ held → start ≤ before → other ≡ asked →
+    FindsFacts mid before now other.log posed verdict (Err end) →
+    Explains held (Rose start now) write_fault asked posed status verdict put put (Err end)
+no_facts held mid start before now write_fault asked other posed status verdict put silence.NoMemory
     same later is finds = kept put
-no_facts held mid start before now write_fault asked other status verdict put silence.Unread same
-    later is (file, named, unread) = (
+no_facts held mid start before now write_fault asked other posed status verdict put silence.Unread
+    same later is finds = (
       kept put,
-      inr (
-        file,
-        subst (λ (a : Asked). a.log ≡ Some file) is named,
-        unread_before held start before now longest_log file later
-            (subst (λ (h : Option Names). IsUnreadAs h (Rose before now) longest_log file) same
-            unread),
-      ),
+      inr (subst (λ (a : Asked). IsUnread held (Rose start now) longest_log a.log) is
+          (subst (λ (h : Option Names). IsUnread h (Rose start now) longest_log other.log) same
+          (finds start later))),
     )
-no_facts held mid start before now write_fault asked other status verdict put silence.Changed same
+no_facts held mid start before now write_fault asked other posed status verdict put silence.Changed
+    same later is finds = (
+      kept put,
+      inr (subst (λ (a : Asked). HasOtherLog held a.log posed (step_wanted verdict)) is
+          (subst (λ (h : Option Names). HasOtherLog h other.log posed (step_wanted verdict)) same
+          finds)),
+    )
+no_facts held mid start before now write_fault asked other posed status verdict put silence.Cut same
     later is finds = absurd finds
-no_facts held mid start before now write_fault asked other status verdict put silence.Cut same
-    later is finds = absurd finds
+
+-- what is read has no such place as the report names
+pub other_text : (held mid : Option Names) (asked other : Asked) (posed : Option Posed)
+    (status : Status) (verdict : Option Verdict) (put name : Option (List ℕ)) (given bytes : List ℕ)
+    (facts : Facts) (made : Option (Vec ℕ Global)) → mid ≡ held → other ≡ asked →
+    name ≡ name_read other verdict → IsRead held name given → bytes ≡ given →
+    AreFacts mid other.log posed verdict facts →
+    MakesSome (message other status verdict bytes facts) made → made ≡ None →
+    Keeps put put × HasChanged held asked posed status verdict
+other_text held mid asked other posed status verdict put name given bytes facts made same is name_is
+    read bytes_is log makes made_is = (
+      kept put,
+      inl (record {
+        given = given;
+        facts = facts;
+        read =
+            subst (λ (a : Asked). IsRead held (name_read a verdict) given) is
+            (subst (λ (n : Option (List ℕ)). IsRead held n given) name_is read);
+        of_log =
+            subst (λ (a : Asked). AreFacts held a.log posed verdict facts) is
+            (subst (λ (h : Option Names). AreFacts h other.log posed verdict facts) same log);
+        none =
+            subst (λ (a : Asked). message a status verdict given facts ≡ None) is
+            (subst (λ (b : List ℕ). message other status verdict b facts ≡ None) bytes_is
+            (subst (MakesSome (message other status verdict bytes facts)) made_is makes));
+      }),
+    )

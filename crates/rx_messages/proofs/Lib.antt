@@ -1,3 +1,4 @@
 -- Lemmas on messages.
 pub mod ExplainLemmas
+pub mod FactLemmas
 pub mod MessageLemmas

@@ -6,8 +6,10 @@ use Rattle.rx_report.specs.declared.ends.Status.{Status}
 use Rattle.rx_report.specs.declared.verdicts.Verdict.{Verdict}
 use Rattle.rx_messages.specs.Asked.{Asked, file_of}
 use Rattle.rx_messages.specs.Faults.{is_about_pre, place_of}
-use Rattle.rx_messages.specs.Logs.{AreFacts, Facts, longest_log}
+use Rattle.rx_logstate.specs.AtSteps.{HasNoPlace, Stand}
+use Rattle.rx_messages.specs.Logs.{AreFacts, Facts, longest_log, step_wanted}
 use Rattle.rx_messages.specs.Messages.{message}
+use Rattle.rx_messages.specs.declared.logs.Posed.{Posed}
 use Rattle.rx_messages.specs.declared.silences.Silence.{Silence}
 use Rattle.rx_messages.specs.declared.silences.Silence.TheVariants.{NoMemory, Unread, Changed, Cut}
 
@@ -47,38 +49,56 @@ HasUnread held read_fault asked verdict =
     IsUnread held read_fault longest_source (name_read asked verdict)
     ⊎ IsUnread held read_fault longest_log asked.log
 
+-- what is held in the place of the log isn't one that comes to the step
+abbrev pub IsOtherAt : Option Names → List ℕ → Option Posed → Option ℕ → Type 0
+IsOtherAt held name None wanted = ⊥
+IsOtherAt held name (Some posed) None = ⊥
+IsOtherAt held name (Some posed) (Some number) =
+    Stand held name (HasNoPlace posed.rules posed.goal number)
+
+abbrev pub HasOtherLog : Option Names → Option (List ℕ) → Option Posed → Option ℕ → Type 0
+HasOtherLog held None posed wanted = ⊥
+HasOtherLog held (Some name) posed wanted = IsOtherAt held name posed wanted
+
 -- the message on what is read, which is P
-pub record HasMessage (held : Option Names) (asked : Asked) (status : Status)
+pub record HasMessage (held : Option Names) (asked : Asked) (posed : Option Posed) (status : Status)
     (verdict : Option Verdict) (P : List ℕ → Type 0)
     : Type 0 where
   pub given : List ℕ
   pub facts : Facts
   pub text : List ℕ
   pub read : IsRead held (name_read asked verdict) given
-  pub of_log : AreFacts held asked.log verdict facts
+  pub of_log : AreFacts held asked.log posed verdict facts
   pub is : message asked status verdict given facts ≡ Some text
   pub so : P text
 
 -- what is read has no such place as the report names
-pub record HasChanged (held : Option Names) (asked : Asked) (status : Status)
-    (verdict : Option Verdict)
+pub record HasOtherText (held : Option Names) (asked : Asked) (posed : Option Posed)
+    (status : Status) (verdict : Option Verdict)
     : Type 0 where
   pub given : List ℕ
   pub facts : Facts
   pub read : IsRead held (name_read asked verdict) given
-  pub of_log : AreFacts held asked.log verdict facts
+  pub of_log : AreFacts held asked.log posed verdict facts
   pub none : message asked status verdict given facts ≡ None
+
+-- the text or the log has no such place (any more)
+abbrev pub HasChanged : Option Names → Asked → Option Posed → Status → Option Verdict → Type 0
+HasChanged held asked posed status verdict =
+    HasOtherText held asked posed status verdict
+    ⊎ HasOtherLog held asked.log posed (step_wanted verdict)
 
 -- the whole message is written; or nothing, for a cause; or, where a call on the output found a
 -- fault, a part of the message
-abbrev pub Explains : Option Names → Type 0 → Type 0 → Asked → Status → Option Verdict →
+abbrev pub Explains : Option Names → Type 0 → Type 0 → Asked → Option Posed → Status →
+    Option Verdict →
     Option (List ℕ) → Option (List ℕ) → Result (Unit {0}) Silence → Type 0
-Explains held read_fault write_fault asked status verdict old new (Ok _) =
-    HasMessage held asked status verdict (λ text. Appends old new text)
-Explains held read_fault write_fault asked status verdict old new (Err NoMemory) = Keeps old new
-Explains held read_fault write_fault asked status verdict old new (Err Unread) =
+Explains held read_fault write_fault asked posed status verdict old new (Ok _) =
+    HasMessage held asked posed status verdict (λ text. Appends old new text)
+Explains held read_fault write_fault asked posed status verdict old new (Err NoMemory) = Keeps old new
+Explains held read_fault write_fault asked posed status verdict old new (Err Unread) =
     Keeps old new × HasUnread held read_fault asked verdict
-Explains held read_fault write_fault asked status verdict old new (Err Changed) =
-    Keeps old new × HasChanged held asked status verdict
-Explains held read_fault write_fault asked status verdict old new (Err Cut) =
-    write_fault × HasMessage held asked status verdict (λ text. AppendsPrefix old new text)
+Explains held read_fault write_fault asked posed status verdict old new (Err Changed) =
+    Keeps old new × HasChanged held asked posed status verdict
+Explains held read_fault write_fault asked posed status verdict old new (Err Cut) =
+    write_fault × HasMessage held asked posed status verdict (λ text. AppendsPrefix old new text)

@@ -1,43 +1,112 @@
--- What a message shows of a log: the line that the report is about.
-use Rattle.std.specs.Prelude.{◌≡◌, ◌+◌, ℕ, List, [], ◌++◌, Option, Some, None, codes, decimal}
+-- What a message shows of a log: a line of it, and at a step the first goal of the state before.
+use Rattle.std.specs.Prelude.{◌≡◌, ◌+◌, ◌^◌, ℕ, List, [], ◌∷◌, ◌++◌, Option, Some, None, codes, decimal, length, option_map}
 use Rattle.rx_check.specs.declared.check_end.CheckEnd.{CheckEnd}
 use Rattle.rx_check.specs.declared.check_end.CheckEnd.TheVariants as End
 use Rattle.rx_check.specs.declared.check_end.LimitAt.{LimitAt}
 use Rattle.rx_check.specs.declared.check_end.LimitAt.TheVariants as At
+use Rattle.rx_goal_words.specs.ConditionTexts.{condition_text}
+use Rattle.rx_goal_words.specs.GoalTexts.{state_text}
+use Rattle.rx_goal_words.specs.RuleTexts.{is_of_symbol, rules_text}
+use Rattle.rx_inference.specs.declared.step.Step.{Step}
 use Rattle.rx_io.specs.Outside.{Names}
+use Rattle.rx_logstate.specs.AtSteps.{IsAtStep, OnLog, Stand}
+use Rattle.rx_logstate.specs.declared.at_step.AtStep.{AtStep}
 use Rattle.rx_places.specs.Excerpts.{numbered}
 use Rattle.rx_places.specs.LineFronts.{IsLineHeld}
 use Rattle.rx_report.specs.declared.verdicts.Verdict.{Verdict}
 use Rattle.rx_report.specs.declared.verdicts.Verdict.TheVariants as Said
+use Rattle.rx_steps.specs.declared.step_end.StepEnd.{StepEnd}
+use Rattle.rx_steps.specs.declared.step_end.StepEnd.TheVariants as Unmet
+use Rattle.rx_term.specs.declared.rule_set.RuleParts.{RuleParts}
 use Rattle.rx_messages.specs.declared.logs.Facts as code
+use Rattle.rx_messages.specs.declared.logs.Posed.{Posed}
+
+-- ---- the step
 
 -- the most bytes of a log
 abbrev pub longest_log : ℕ
 longest_log = 67108864
 
+-- a log has fewer steps, so here it is at the end of its steps
+abbrev pub all_steps : ℕ
+all_steps = 2 ^ 32
+
+-- the step at which the log is looked at
+abbrev pub step_of_limit : LimitAt → Option ℕ
+step_of_limit (At.Cover symbol) = None
+step_of_limit (At.Step step) = Some step
+step_of_limit (At.Pair pair) = Some all_steps
+
+abbrev pub step_of_end : CheckEnd → Option ℕ
+step_of_end (End.Step step end) = Some step
+step_of_end (End.Unfinished goals) = Some all_steps
+step_of_end (End.NotCovered symbol) = None
+step_of_end (End.BadRanks symbol) = Some all_steps
+step_of_end (End.NotLower pair) = Some all_steps
+step_of_end (End.Large place) = step_of_limit place
+step_of_end End.NoMemory = None
+
+abbrev pub step_wanted : Option Verdict → Option ℕ
+step_wanted None = None
+step_wanted (Some (Said.Check end)) = step_of_end end
+step_wanted (Some verdict) = None
+
+-- at that step of the log that is held under the name, for the rules and the goal
+abbrev pub IsStepFound : Option Names → List ℕ → Posed → ℕ → Option AtStep → Type 0
+IsStepFound held name posed number None = ⊥
+IsStepFound held name posed number (Some found) =
+    Stand held name (λ bytes. OnLog bytes (λ log.
+    IsAtStep posed.rules posed.goal log number found))
+
+abbrev pub IsFoundFor : Option Names → List ℕ → Posed → Option ℕ → Option AtStep → Type 0
+IsFoundFor held name posed None found = found ≡ None
+IsFoundFor held name posed (Some number) found = IsStepFound held name posed number found
+
+abbrev pub IsFoundIn : Option Names → List ℕ → Option Posed → Option ℕ → Option AtStep → Type 0
+IsFoundIn held name None wanted found = found ≡ None
+IsFoundIn held name (Some posed) wanted found = IsFoundFor held name posed wanted found
+
+-- the same where there may be no log, no problem, or no such step
+abbrev pub IsFound : Option Names → Option (List ℕ) → Option Posed → Option ℕ → Option AtStep →
+    Type 0
+IsFound held None posed wanted found = found ≡ None
+IsFound held (Some name) posed wanted found = IsFoundIn held name posed wanted found
+
 -- ---- the line
 
--- the covers come after the header; the lines of steps, ranks and pairs aren't found here
-abbrev pub line_of_limit : LimitAt → Option ℕ
-line_of_limit (At.Cover symbol) = Some (2 + symbol)
-line_of_limit (At.Step step) = None
-line_of_limit (At.Pair pair) = None
+-- the line of that step
+abbrev pub line_at : Option AtStep → Option ℕ
+line_at found = option_map (λ at. at.line) found
 
-abbrev pub line_of_end : CheckEnd → Option ℕ
-line_of_end (End.Step step end) = None
-line_of_end (End.Unfinished goals) = None
-line_of_end (End.NotCovered symbol) = Some (2 + symbol)
-line_of_end (End.BadRanks symbol) = None
-line_of_end (End.NotLower pair) = None
-line_of_end (End.Large place) = line_of_limit place
-line_of_end End.NoMemory = None
+-- so many lines after it
+abbrev pub line_past : ℕ → Option AtStep → Option ℕ
+line_past lines found = option_map (λ at. at.line + lines) found
+
+-- the pairs come after the line that begins the ranks, and the ranks
+abbrev pub pair_line : ℕ → Option AtStep → Option ℕ
+pair_line pair found = option_map (λ at. at.line + 1 + length at.table.ranks + pair) found
+
+abbrev pub line_of_limit : LimitAt → Option AtStep → Option ℕ
+line_of_limit (At.Cover symbol) found = Some (2 + symbol)
+line_of_limit (At.Step step) found = line_at found
+line_of_limit (At.Pair pair) found = pair_line pair found
+
+-- the covers come after the header
+abbrev pub line_of_end : CheckEnd → Option AtStep → Option ℕ
+line_of_end (End.Step step end) found = line_at found
+line_of_end (End.Unfinished goals) found = line_at found
+line_of_end (End.NotCovered symbol) found = Some (2 + symbol)
+line_of_end (End.BadRanks symbol) found = line_past (1 + symbol) found
+line_of_end (End.NotLower pair) found = pair_line pair found
+line_of_end (End.Large place) found = line_of_limit place found
+line_of_end End.NoMemory found = None
 
 -- the line of the log that a report is about
-abbrev pub line_wanted : Option Verdict → Option ℕ
-line_wanted None = None
-line_wanted (Some (Said.Line number)) = Some number
-line_wanted (Some (Said.Check end)) = line_of_end end
-line_wanted (Some verdict) = None
+abbrev pub line_wanted : Option Verdict → Option AtStep → Option ℕ
+line_wanted None found = None
+line_wanted (Some (Said.Line number)) found = Some number
+line_wanted (Some (Said.Check end)) found = line_of_end end found
+line_wanted (Some verdict) found = None
 
 abbrev pub IsLineIn : Option Names → List ℕ → Option ℕ → List ℕ → Type 0
 IsLineIn held name None line = line ≡ []
@@ -52,14 +121,18 @@ IsLine held (Some name) wanted line = IsLineIn held name wanted line
 
 -- what is known of the log for a message
 pub record Facts : Type 0 where
+  pub posed : Option Posed
+  pub found : Option AtStep
   pub number : Option ℕ
   pub line : List ℕ
 
 -- that is so of the log that is held under the name, after a report
-pub record AreFacts (held : Option Names) (name : Option (List ℕ)) (verdict : Option Verdict)
-    (facts : Facts)
+pub record AreFacts (held : Option Names) (name : Option (List ℕ)) (posed : Option Posed)
+    (verdict : Option Verdict) (facts : Facts)
     : Type 0 where
-  pub number : facts.number ≡ line_wanted verdict
+  pub same : facts.posed ≡ posed
+  pub at : IsFound held name posed (step_wanted verdict) facts.found
+  pub number : facts.number ≡ line_wanted verdict facts.found
   pub line : IsLine held name facts.number facts.line
 
 -- ---- what is shown
@@ -74,10 +147,64 @@ abbrev pub line_text : Option ℕ → List ℕ → List ℕ
 line_text None line = []
 line_text (Some number) line = numbered number line
 
-abbrev pub log_text : Facts → List ℕ
-log_text facts = line_text facts.number facts.line
+-- the condition with this number of the step, if there is a step
+abbrev pub condition_of : RuleParts → AtStep → ℕ → List Step → List ℕ
+condition_of parts at number [] = []
+condition_of parts at number (step ∷ more) = condition_text parts at.state step number
+
+-- the condition that isn't shown
+abbrev pub unmet_text : RuleParts → AtStep → StepEnd → List ℕ
+unmet_text parts at (Unmet.NotShown number) = condition_of parts at number at.step
+unmet_text parts at end = []
+
+-- of a step that fails: the condition, and the state before it
+abbrev pub step_text : RuleParts → StepEnd → Option AtStep → List ℕ
+step_text parts end None = []
+step_text parts end (Some at) = unmet_text parts at end ++ state_text parts at.state
+
+-- the state, if one is known
+abbrev pub goal_text : RuleParts → Option AtStep → List ℕ
+goal_text parts None = []
+goal_text parts (Some at) = state_text parts at.state
+
+-- the rules of a symbol
+abbrev pub symbol_text : RuleParts → ℕ → List ℕ
+symbol_text parts symbol =
+    codes "  rules of s" ++ (decimal symbol ++ (codes ":\n"
+    ++ rules_text (is_of_symbol symbol) 0 parts.rules))
+
+abbrev pub limit_text : RuleParts → LimitAt → Option AtStep → List ℕ
+limit_text parts (At.Cover symbol) found = symbol_text parts symbol
+limit_text parts (At.Step step) found = goal_text parts found
+limit_text parts (At.Pair pair) found = []
+
+abbrev pub end_text : RuleParts → CheckEnd → Option AtStep → List ℕ
+end_text parts (End.Step step end) found = step_text parts end found
+end_text parts (End.Unfinished goals) found = goal_text parts found
+end_text parts (End.NotCovered symbol) found = symbol_text parts symbol
+end_text parts (End.BadRanks symbol) found = symbol_text parts symbol
+end_text parts (End.NotLower pair) found = []
+end_text parts (End.Large place) found = limit_text parts place found
+end_text parts End.NoMemory found = []
+
+abbrev pub posed_text : Option Posed → CheckEnd → Option AtStep → List ℕ
+posed_text None end found = []
+posed_text (Some posed) end found = end_text posed.rules end found
+
+abbrev pub details : Facts → Verdict → List ℕ
+details facts (Said.Check end) = posed_text facts.posed end facts.found
+details facts verdict = []
+
+-- the line, and more of the check
+abbrev pub log_text : Facts → Verdict → List ℕ
+log_text facts verdict = line_text facts.number facts.line ++ details facts verdict
 
 -- ---- the values of the code
 
 abbrev pub facts_view : code.Facts → Facts
-facts_view facts = record { number = facts.number; line = facts.line.items }
+facts_view facts = record {
+  posed = option_map (λ posed. posed.now) facts.posed;
+  found = facts.found;
+  number = facts.number;
+  line = facts.line.items;
+}

@@ -103,7 +103,7 @@ advice asked verdict =
 abbrev pub remark : Asked → Verdict → Facts → List ℕ
 remark asked verdict facts =
     remark_name asked verdict facts ++ (kind_of (status_of verdict) ++ (thing_of asked verdict
-    ++ (words_of verdict ++ (closing verdict ++ (log_text facts ++ advice asked verdict)))))
+    ++ (words_of verdict ++ (closing verdict ++ (log_text facts verdict ++ advice asked verdict)))))
 
 -- the modes, with an example each
 abbrev pub usage : List ℕ

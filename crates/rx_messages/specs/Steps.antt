@@ -1,14 +1,18 @@
 -- What the functions inside promise to one another. Nothing that a caller reads depends on this.
-use Rattle.std.specs.Prelude.{◌≡◌, ℕ, List, Option, Some, None, Vec, option_map, Result, Ok, Err, ⊤}
+use Rattle.std.specs.Prelude.{◌≡◌, ◌≤◌, ℕ, List, Option, Some, None, Vec, option_map, Result, Ok, Err, ⊤}
 use Rattle.std.specs.Borrow.{Bor}
 use Rattle.std.specs.declared.alloc.Global.{Global}
-use Rattle.rx_io.specs.Outside.{Names}
+use Rattle.rx_io.specs.Outside.{Names, Rose}
+use Rattle.rx_logstate.specs.declared.at_step.AtStep.{AtStep}
+use Rattle.rx_logstate.specs.declared.look_end.LookEnd.{LookEnd}
+use Rattle.rx_logstate.specs.declared.look_end.LookEnd.TheVariants as look_end
 use Rattle.rx_report.specs.declared.verdicts.Verdict.{Verdict}
 use Rattle.rx_io.specs.declared.reading.ReadEnd.{ReadEnd}
 use Rattle.rx_io.specs.declared.reading.ReadEnd.TheVariants as read_end
-use Rattle.rx_messages.specs.Explaining.{IsRead, IsUnread, longest_source}
-use Rattle.rx_messages.specs.Logs.{AreFacts, IsLine, facts_view, longest_log}
+use Rattle.rx_messages.specs.Explaining.{HasOtherLog, IsRead, IsUnread, longest_source}
+use Rattle.rx_messages.specs.Logs.{AreFacts, IsFound, IsLine, facts_view, longest_log, step_wanted}
 use Rattle.rx_messages.specs.declared.logs.Facts as code
+use Rattle.rx_messages.specs.declared.logs.Posed.{Posed}
 use Rattle.rx_messages.specs.declared.silences.Silence.{Silence}
 use Rattle.rx_messages.specs.declared.silences.Silence.TheVariants as silence
 
@@ -36,6 +40,17 @@ MeansEnd read_end.NoMemory end = end ≡ silence.NoMemory
 MeansEnd read_end.Failed end = end ≡ silence.Unread
 MeansEnd read_end.TooLong end = end ≡ silence.Unread
 
+-- what is known at the step of the log with this name, or why nothing is
+abbrev pub FindsStep : Option Names → Type 0 → Option (List ℕ) → Option Posed → Option ℕ →
+    Result (Option AtStep) Silence → Type 0
+FindsStep held read_fault name posed wanted (Ok found) = IsFound held name posed wanted found
+FindsStep held read_fault name posed wanted (Err silence.NoMemory) = ⊤
+FindsStep held read_fault name posed wanted (Err silence.Unread) =
+    IsUnread held read_fault longest_log name
+FindsStep held read_fault name posed wanted (Err silence.Changed) =
+    HasOtherLog held name posed wanted
+FindsStep held read_fault name posed wanted (Err silence.Cut) = ⊥
+
 -- the first bytes of the line, or why there are none
 abbrev pub FindsLine : Option Names → Type 0 → Option (List ℕ) → Option ℕ →
     Result (Vec ℕ Global) Silence → Type 0
@@ -46,12 +61,20 @@ FindsLine held read_fault name wanted (Err silence.Unread) =
 FindsLine held read_fault name wanted (Err silence.Changed) = ⊥
 FindsLine held read_fault name wanted (Err silence.Cut) = ⊥
 
--- both
-abbrev pub FindsFacts : Option Names → Type 0 → Option (List ℕ) → Option Verdict →
+-- both, by calls that leave the count of faults between the two numbers
+abbrev pub FindsFacts : Option Names → ℕ → ℕ → Option (List ℕ) → Option Posed → Option Verdict →
     Result code.Facts Silence → Type 0
-FindsFacts held read_fault name verdict (Ok facts) = AreFacts held name verdict (facts_view facts)
-FindsFacts held read_fault name verdict (Err silence.NoMemory) = ⊤
-FindsFacts held read_fault name verdict (Err silence.Unread) =
-    IsUnread held read_fault longest_log name
-FindsFacts held read_fault name verdict (Err silence.Changed) = ⊥
-FindsFacts held read_fault name verdict (Err silence.Cut) = ⊥
+FindsFacts held before now name posed verdict (Ok facts) =
+    AreFacts held name posed verdict (facts_view facts)
+FindsFacts held before now name posed verdict (Err silence.NoMemory) = ⊤
+FindsFacts held before now name posed verdict (Err silence.Unread) =
+    (start : ℕ) → start ≤ before → IsUnread held (Rose start now) longest_log name
+FindsFacts held before now name posed verdict (Err silence.Changed) =
+    HasOtherLog held name posed (step_wanted verdict)
+FindsFacts held before now name posed verdict (Err silence.Cut) = ⊥
+
+-- what a fault of a look at a log means for a message
+abbrev pub MeansLook : LookEnd → Silence → Type 0
+MeansLook look_end.NoMemory end = end ≡ silence.NoMemory
+MeansLook look_end.Unread end = end ≡ silence.Unread
+MeansLook look_end.NoPlace end = end ≡ silence.Changed

@@ -1,5 +1,6 @@
 //! What a run says on standard error.
 ghost use Rattle.std.specs.Prelude.{◌≡◌, ◌≤◌, ⊤, map, string_bytes, IfOk, MatchOption};
+ghost use Rattle.std.specs.Option.{option_copied};
 ghost use Rattle.rx_command.specs.Commands as words_say;
 ghost use Rattle.rx_command.specs.Commands.{bytes_of};
 ghost use Rattle.rx_io.specs.Outside.{Rose};
@@ -12,7 +13,7 @@ ghost use Rattle.rx_report.specs.Texts.{IsReportableVerdict};
 
 use crate::asked::{Asked, asked_of, file_of};
 use crate::faults::{is_about_pre, place_of};
-use crate::logs::facts_of;
+use crate::logs::{Posed, facts_of};
 use crate::messages::message;
 use crate::silences::{Silence, silence_of};
 use rx_command::command_of;
@@ -68,29 +69,32 @@ fn read_given<F: Files>(
 ///
 /// `status` says how the run ended, and `verdict` what it reported, where that was a line of a
 /// verdict. Where the verdict names a place in the text of the functions, the text is read again;
-/// the place is shown by its line and column, with the line. Where it is about a line of the log,
-/// that is read again, in pieces, and the line is shown. Else the message says in words what was
-/// tried, and what to try. Nothing else is read, and the report isn't touched.
+/// the place is shown by its line and column, with the line. Where it is about the log, that is read
+/// again, in pieces, and its line is shown; `posed` is the problem that the log is about, and where
+/// a step fails or goals are left, the first goal of the state before is shown. Else the message
+/// says in words what was tried, and what to try. Nothing else is read, and the report isn't
+/// touched.
 pub fn explain<F: Files, O: Sink>(
     alloc: Global,
     words: &[String],
     status: Status,
     verdict: Option<Verdict>,
+    posed: Option<&Posed>,
     files: &mut F,
     err: &mut O,
 ) -> Result<(), Silence>
     requires { MatchOption verdict ⊤ IsReportableVerdict }
     ensures explains { Explains (F.held files.old) (Rose (F.faults files.old) (F.faults files.new))
         (Rose (O.faults err.old) (O.faults err.new))
-        (spec_asked.asked_of (words_say.command_of (map string_bytes words.now))) status verdict
-        (O.contents err.old) (O.contents err.new) result }
+        (spec_asked.asked_of (words_say.command_of (map string_bytes words.now)))
+        (option_copied posed.entry) status verdict (O.contents err.old) (O.contents err.new) result }
     ensures reach_files { F.reaches files.old files.new }
     ensures reach_err { O.reaches err.old err.new }
 {
     let command = command_of(alloc, words)?;
     let asked = asked_of(&command);
     let given = read_given(alloc, files, name_read(&asked, &verdict))?;
-    let facts = facts_of(alloc, files, asked.log, &verdict)?;
+    let facts = facts_of(alloc, files, asked.log, posed, &verdict)?;
     let Some(text) = message(alloc, &asked, status, verdict, &given, &facts)? else {
         return Err(Silence::Changed);
     };

@@ -12,5 +12,6 @@ mod silences;
 
 pub use explaining::explain;
 pub use faults::Place;
+pub use logs::Posed;
 pub use rx_places::NoMemory;
 pub use silences::Silence;

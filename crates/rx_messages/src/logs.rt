@@ -1,22 +1,40 @@
 //! What a message shows of a log.
 ghost use Rattle.std.specs.Prelude.{◌≡◌, ◌≤◌, ◌+◌, ◌++◌, Some, IfOk, OnOk};
+ghost use Rattle.std.specs.Option.{option_copied};
 ghost use Rattle.rx_command.specs.Commands.{bytes_of};
 ghost use Rattle.rx_io.specs.Outside.{Rose};
 ghost use Rattle.rx_messages.specs.Logs as spec;
-ghost use Rattle.rx_messages.specs.Logs.{facts_view};
-ghost use Rattle.rx_messages.specs.Steps.{FindsFacts, FindsLine};
+ghost use Rattle.rx_messages.specs.Logs.{AreFacts, facts_view};
+ghost use Rattle.rx_messages.specs.Steps.{FindsFacts, FindsLine, FindsStep};
 
-use crate::silences::{Silence, silence_of};
+use crate::silences::{Silence, silence_of, silence_of_look};
 use rx_check::{CheckEnd, LimitAt};
+use rx_goal_words::{push_condition, push_rules_of, push_state};
 use rx_io::Files;
+use rx_logstate::{AtStep, step_in_file};
 use rx_places::{NoMemory, line_in_file, push_number, push_numbered_line, push_word};
 use rx_report::Verdict;
+use rx_steps::StepEnd;
+use rx_term::{Equation, RuleSet};
 use std::alloc::Global;
+
+/// The problem that a log is about: whether both sides of the goal are equal by the rules.
+#[derive(Drop)]
+pub struct Posed {
+    /// The rules of both functions.
+    pub rules: RuleSet,
+    /// Their entries on the same variables, under the rows of the precondition.
+    pub goal: Equation,
+}
 
 /// What is known of the log for a message.
 #[derive(Drop)]
-pub(crate) struct Facts {
-    /// The number of the line that the report is about, counted from 1.
+pub(crate) struct Facts<'a> {
+    /// The problem, where it is given.
+    pub posed: Option<&'a Posed>,
+    /// The state at the step that the report is about.
+    pub found: Option<AtStep>,
+    /// The number of the line that it is about, counted from 1.
     pub number: Option<usize>,
     /// The first bytes of that line.
     pub line: Vec<u8>,
@@ -28,47 +46,182 @@ const LONGEST_LOG: u32 = 67_108_864;
 // So many bytes of a line are read: one more than are shown.
 const LONGEST_LINE: usize = 201;
 
-/// The line of the trees of a symbol; NoMemory where it has no number.
-fn cover_line(symbol: usize) -> Result<Option<usize>, NoMemory>
-    ensures { IfOk result (λ number. number ≡ Some (2 + symbol)) }
+// A log has fewer steps.
+const ALL_STEPS: usize = 1 << 32;
+
+// ---- the step
+
+fn step_of_limit(place: LimitAt) -> Option<usize>
+    ensures { result ≡ spec.step_of_limit place }
 {
-    match symbol.checked_add(2) {
-        Some(number) => Ok(Some(number)),
+    match place {
+        LimitAt::Cover(_) => None,
+        LimitAt::Step(step) => Some(step),
+        LimitAt::Pair(_) => Some(ALL_STEPS),
+    }
+}
+
+fn step_of_end(end: CheckEnd) -> Option<usize>
+    ensures { result ≡ spec.step_of_end end }
+{
+    match end {
+        CheckEnd::Step { step, end: _ } => Some(step),
+        CheckEnd::Unfinished { goals: _ } => Some(ALL_STEPS),
+        CheckEnd::NotCovered { sym: _ } => None,
+        CheckEnd::BadRanks { sym: _ } => Some(ALL_STEPS),
+        CheckEnd::NotLower { pair: _ } => Some(ALL_STEPS),
+        CheckEnd::Large { place } => step_of_limit(place),
+        CheckEnd::NoMemory => None,
+    }
+}
+
+/// The step at which the log is looked at, counted from 0.
+fn step_wanted(verdict: &Option<Verdict>) -> Option<usize>
+    ensures { result ≡ spec.step_wanted verdict.now }
+{
+    match verdict {
+        Some(Verdict::Check(end)) => step_of_end(*end),
+        Some(_) => None,
+        None => None,
+    }
+}
+
+/// What is known at that step of the log.
+fn step_found<F: Files>(
+    alloc: Global,
+    files: &mut F,
+    name: &str,
+    posed: &Posed,
+    number: usize,
+) -> Result<Option<AtStep>, Silence>
+    ensures reach { F.reaches files.old files.new }
+    ensures held { F.held files.new ≡ F.held files.old }
+    ensures later { F.faults files.old ≤ F.faults files.new }
+    ensures finds { FindsStep (F.held files.old) (Rose (F.faults files.old) (F.faults files.new))
+        (Some name.now) (Some posed.now) (Some number) result }
+{
+    let Ok(goal) = posed.goal.try_clone(alloc) else {
+        return Err(Silence::NoMemory);
+    };
+    match step_in_file(alloc, &posed.rules, goal, files, name, LONGEST_LOG, number) {
+        Ok(found) => Ok(Some(found)),
+        Err(end) => Err(silence_of_look(end)),
+    }
+}
+
+/// The same where there may be no log, no problem, or no such step.
+fn read_step<F: Files>(
+    alloc: Global,
+    files: &mut F,
+    name: Option<&str>,
+    posed: Option<&Posed>,
+    wanted: Option<usize>,
+) -> Result<Option<AtStep>, Silence>
+    ensures reach { F.reaches files.old files.new }
+    ensures held { F.held files.new ≡ F.held files.old }
+    ensures later { F.faults files.old ≤ F.faults files.new }
+    ensures finds { FindsStep (F.held files.old) (Rose (F.faults files.old) (F.faults files.new))
+        (bytes_of name.entry) (option_copied posed.entry) wanted result }
+{
+    let Some(name) = name else {
+        return Ok(None);
+    };
+    let Some(posed) = posed else {
+        return Ok(None);
+    };
+    let Some(number) = wanted else {
+        return Ok(None);
+    };
+    step_found(alloc, files, name, posed, number)
+}
+
+// ---- the line
+
+/// So many lines after this one; NoMemory where there is no such number.
+fn lines_after(line: usize, lines: usize) -> Result<usize, NoMemory>
+    ensures { IfOk result (λ number. number ≡ line + lines) }
+{
+    match line.checked_add(lines) {
+        Some(number) => Ok(number),
         None => Err(NoMemory),
     }
 }
 
-fn line_of_limit(place: LimitAt) -> Result<Option<usize>, NoMemory>
-    ensures { IfOk result (λ number. number ≡ spec.line_of_limit place) }
+/// The line of the trees of a symbol.
+fn cover_line(symbol: usize) -> Result<Option<usize>, NoMemory>
+    ensures { IfOk result (λ number. number ≡ Some (2 + symbol)) }
 {
-    match place {
-        LimitAt::Cover(symbol) => cover_line(symbol),
-        LimitAt::Step(_) => Ok(None),
-        LimitAt::Pair(_) => Ok(None),
+    Ok(Some(lines_after(2, symbol)?))
+}
+
+/// The line of the step.
+fn line_at(found: &Option<AtStep>) -> Option<usize>
+    ensures { result ≡ spec.line_at found.now }
+{
+    match found {
+        Some(at) => Some(at.line),
+        None => None,
     }
 }
 
-fn line_of_end(end: CheckEnd) -> Result<Option<usize>, NoMemory>
-    ensures { IfOk result (λ number. number ≡ spec.line_of_end end) }
+/// The line of the rank of a symbol.
+fn rank_line(symbol: usize, found: &Option<AtStep>) -> Result<Option<usize>, NoMemory>
+    ensures { IfOk result (λ number. number ≡ spec.line_past (1 + symbol) found.now) }
+{
+    match found {
+        Some(at) => {
+            let lines = lines_after(1, symbol)?;
+            Ok(Some(lines_after(at.line, lines)?))
+        }
+        None => Ok(None),
+    }
+}
+
+/// The line of a pair.
+fn pair_line(pair: usize, found: &Option<AtStep>) -> Result<Option<usize>, NoMemory>
+    ensures { IfOk result (λ number. number ≡ spec.pair_line pair found.now) }
+{
+    match found {
+        Some(at) => {
+            let begin = lines_after(at.line, 1)?;
+            let first = lines_after(begin, at.table.ranks.len())?;
+            Ok(Some(lines_after(first, pair)?))
+        }
+        None => Ok(None),
+    }
+}
+
+fn line_of_limit(place: LimitAt, found: &Option<AtStep>) -> Result<Option<usize>, NoMemory>
+    ensures { IfOk result (λ number. number ≡ spec.line_of_limit place found.now) }
+{
+    match place {
+        LimitAt::Cover(symbol) => cover_line(symbol),
+        LimitAt::Step(_) => Ok(line_at(found)),
+        LimitAt::Pair(pair) => pair_line(pair, found),
+    }
+}
+
+fn line_of_end(end: CheckEnd, found: &Option<AtStep>) -> Result<Option<usize>, NoMemory>
+    ensures { IfOk result (λ number. number ≡ spec.line_of_end end found.now) }
 {
     match end {
-        CheckEnd::Step { step: _, end: _ } => Ok(None),
-        CheckEnd::Unfinished { goals: _ } => Ok(None),
+        CheckEnd::Step { step: _, end: _ } => Ok(line_at(found)),
+        CheckEnd::Unfinished { goals: _ } => Ok(line_at(found)),
         CheckEnd::NotCovered { sym } => cover_line(sym),
-        CheckEnd::BadRanks { sym: _ } => Ok(None),
-        CheckEnd::NotLower { pair: _ } => Ok(None),
-        CheckEnd::Large { place } => line_of_limit(place),
+        CheckEnd::BadRanks { sym } => rank_line(sym, found),
+        CheckEnd::NotLower { pair } => pair_line(pair, found),
+        CheckEnd::Large { place } => line_of_limit(place, found),
         CheckEnd::NoMemory => Ok(None),
     }
 }
 
 /// The number of the line of the log that a report is about.
-fn line_wanted(verdict: &Option<Verdict>) -> Result<Option<usize>, NoMemory>
-    ensures { IfOk result (λ number. number ≡ spec.line_wanted verdict.now) }
+fn line_wanted(verdict: &Option<Verdict>, found: &Option<AtStep>) -> Result<Option<usize>, NoMemory>
+    ensures { IfOk result (λ number. number ≡ spec.line_wanted verdict.now found.now) }
 {
     match verdict {
         Some(Verdict::Line(number)) => Ok(Some(*number)),
-        Some(Verdict::Check(end)) => line_of_end(*end),
+        Some(Verdict::Check(end)) => line_of_end(*end, found),
         Some(_) => Ok(None),
         None => Ok(None),
     }
@@ -98,22 +251,33 @@ fn read_line<F: Files>(
     ))
 }
 
+// ---- all facts
+
 /// What is known of the log with this name, if there is one, after what was reported.
-pub(crate) fn facts_of<F: Files>(
+pub(crate) fn facts_of<'a, F: Files>(
     alloc: Global,
     files: &mut F,
     name: Option<&str>,
+    posed: Option<&'a Posed>,
     verdict: &Option<Verdict>,
-) -> Result<Facts, Silence>
+) -> Result<Facts<'a>, Silence>
     ensures reach { F.reaches files.old files.new }
     ensures later { F.faults files.old ≤ F.faults files.new }
-    ensures finds { FindsFacts (F.held files.old) (Rose (F.faults files.old) (F.faults files.new))
-        (bytes_of name.entry) verdict.now result }
+    ensures finds { FindsFacts (F.held files.old) (F.faults files.old) (F.faults files.new)
+        (bytes_of name.entry) (option_copied posed.entry) verdict.now result }
 {
-    let number = line_wanted(verdict)?;
+    let found = read_step(alloc, files, name, posed, step_wanted(verdict))?;
+    let number = line_wanted(verdict, &found)?;
     let line = read_line(alloc, files, name, number)?;
-    Ok(Facts { number, line })
+    Ok(Facts {
+        posed,
+        found,
+        number,
+        line,
+    })
 }
+
+// ---- what is shown
 
 /// Adds the number of the line.
 pub(crate) fn push_line_number(out: &mut Vec<u8>, number: Option<usize>) -> Result<(), NoMemory>
@@ -128,16 +292,168 @@ pub(crate) fn push_line_number(out: &mut Vec<u8>, number: Option<usize>) -> Resu
     }
 }
 
-/// Adds the line under its number, if there is one.
-pub(crate) fn push_log_line(
-    out: &mut Vec<u8>,
-    number: Option<usize>,
-    line: &[u8],
-) -> Result<(), NoMemory>
+fn push_line(out: &mut Vec<u8>, number: Option<usize>, line: &[u8]) -> Result<(), NoMemory>
     ensures { OnOk result (out.new.items ≡ out.old.items ++ spec.line_text number line.now) }
 {
     match number {
         Some(number) => push_numbered_line(out, number, line),
         None => Ok(()),
     }
+}
+
+fn push_condition_of(
+    alloc: Global,
+    out: &mut Vec<u8>,
+    rules: &RuleSet,
+    at: &AtStep,
+    number: u32,
+) -> Result<(), NoMemory>
+    ensures { OnOk result (out.new.items
+        ≡ out.old.items ++ spec.condition_of rules.now at.now number at.now.step) }
+{
+    match at.step.as_slice().first() {
+        Some(step) => push_condition(alloc, out, rules, &at.state, step, number),
+        None => Ok(()),
+    }
+}
+
+fn push_unmet(
+    alloc: Global,
+    out: &mut Vec<u8>,
+    rules: &RuleSet,
+    at: &AtStep,
+    end: StepEnd,
+) -> Result<(), NoMemory>
+    ensures { OnOk result (out.new.items ≡ out.old.items ++ spec.unmet_text rules.now at.now end) }
+{
+    match end {
+        StepEnd::NotShown { condition } => push_condition_of(alloc, out, rules, at, condition),
+        StepEnd::NoGoal
+        | StepEnd::WrongShape
+        | StepEnd::NoSuchRule
+        | StepEnd::Large
+        | StepEnd::NoMemory => Ok(()),
+    }
+}
+
+fn push_step_text(
+    alloc: Global,
+    out: &mut Vec<u8>,
+    rules: &RuleSet,
+    end: StepEnd,
+    found: &Option<AtStep>,
+) -> Result<(), NoMemory>
+    ensures { OnOk result (out.new.items ≡ out.old.items ++ spec.step_text rules.now end found.now) }
+{
+    match found {
+        Some(at) => {
+            push_unmet(alloc, out, rules, at, end)?;
+            push_state(out, rules, &at.state)
+        }
+        None => Ok(()),
+    }
+}
+
+fn push_goal_text(
+    out: &mut Vec<u8>,
+    rules: &RuleSet,
+    found: &Option<AtStep>,
+) -> Result<(), NoMemory>
+    ensures { OnOk result (out.new.items ≡ out.old.items ++ spec.goal_text rules.now found.now) }
+{
+    match found {
+        Some(at) => push_state(out, rules, &at.state),
+        None => Ok(()),
+    }
+}
+
+fn push_symbol_text(out: &mut Vec<u8>, rules: &RuleSet, symbol: usize) -> Result<(), NoMemory>
+    ensures { OnOk result (out.new.items ≡ out.old.items ++ spec.symbol_text rules.now symbol) }
+{
+    push_word(out, b"  rules of s")?;
+    push_number(out, symbol)?;
+    push_word(out, b":\n")?;
+    push_rules_of(out, symbol, rules.rules())
+}
+
+fn push_limit_text(
+    out: &mut Vec<u8>,
+    rules: &RuleSet,
+    place: LimitAt,
+    found: &Option<AtStep>,
+) -> Result<(), NoMemory>
+    ensures { OnOk result (out.new.items
+        ≡ out.old.items ++ spec.limit_text rules.now place found.now) }
+{
+    match place {
+        LimitAt::Cover(symbol) => push_symbol_text(out, rules, symbol),
+        LimitAt::Step(_) => push_goal_text(out, rules, found),
+        LimitAt::Pair(_) => Ok(()),
+    }
+}
+
+fn push_end_text(
+    alloc: Global,
+    out: &mut Vec<u8>,
+    rules: &RuleSet,
+    end: CheckEnd,
+    found: &Option<AtStep>,
+) -> Result<(), NoMemory>
+    ensures { OnOk result (out.new.items ≡ out.old.items ++ spec.end_text rules.now end found.now) }
+{
+    match end {
+        CheckEnd::Step { step: _, end } => push_step_text(alloc, out, rules, end, found),
+        CheckEnd::Unfinished { goals: _ } => push_goal_text(out, rules, found),
+        CheckEnd::NotCovered { sym } | CheckEnd::BadRanks { sym } => {
+            push_symbol_text(out, rules, sym)
+        }
+        CheckEnd::NotLower { pair: _ } => Ok(()),
+        CheckEnd::Large { place } => push_limit_text(out, rules, place, found),
+        CheckEnd::NoMemory => Ok(()),
+    }
+}
+
+fn push_posed_text(
+    alloc: Global,
+    out: &mut Vec<u8>,
+    posed: Option<&Posed>,
+    end: CheckEnd,
+    found: &Option<AtStep>,
+) -> Result<(), NoMemory>
+    ensures { OnOk result (out.new.items
+        ≡ out.old.items ++ spec.posed_text (option_copied posed.entry) end found.now) }
+{
+    match posed {
+        Some(posed) => push_end_text(alloc, out, &posed.rules, end, found),
+        None => Ok(()),
+    }
+}
+
+fn push_details(
+    alloc: Global,
+    out: &mut Vec<u8>,
+    facts: &Facts<'_>,
+    verdict: &Verdict,
+) -> Result<(), NoMemory>
+    ensures { OnOk result (out.new.items
+        ≡ out.old.items ++ spec.details (facts_view facts.now) verdict.now) }
+{
+    match verdict {
+        Verdict::Check(end) => push_posed_text(alloc, out, facts.posed, *end, &facts.found),
+        _ => Ok(()),
+    }
+}
+
+/// Adds the line of the log, and more of the check.
+pub(crate) fn push_log_text(
+    alloc: Global,
+    out: &mut Vec<u8>,
+    facts: &Facts<'_>,
+    verdict: &Verdict,
+) -> Result<(), NoMemory>
+    ensures { OnOk result (out.new.items
+        ≡ out.old.items ++ spec.log_text (facts_view facts.now) verdict.now) }
+{
+    push_line(out, facts.number, &facts.line)?;
+    push_details(alloc, out, facts, verdict)
 }

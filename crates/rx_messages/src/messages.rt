@@ -11,7 +11,7 @@ ghost use Rattle.rx_report.specs.Texts.{IsReportableVerdict};
 
 use crate::asked::{Asked, condition_of, file_of, push_call, push_file};
 use crate::faults::{Place, is_about_pre, place_of, spot_at};
-use crate::logs::{Facts, push_line_number, push_log_line};
+use crate::logs::{Facts, push_line_number, push_log_text};
 use crate::remarks::{is_about_log, mode_after, rule_line_of, tries_of, words_of};
 use rx_command::Functions;
 use rx_places::{
@@ -178,7 +178,7 @@ fn push_remark_name(
     out: &mut Vec<u8>,
     asked: &Asked<'_>,
     verdict: &Verdict,
-    facts: &Facts,
+    facts: &Facts<'_>,
 ) -> Result<(), NoMemory>
     ensures { OnOk result (out.new.items
         ≡ out.old.items ++ spec.remark_name (asked_view asked.now) verdict.now
@@ -229,7 +229,7 @@ fn remark(
     alloc: Global,
     asked: &Asked<'_>,
     verdict: &Verdict,
-    facts: &Facts,
+    facts: &Facts<'_>,
 ) -> Result<Vec<u8>, NoMemory>
     requires { IsReportableVerdict verdict.now }
     ensures { IfOk result (λ text. text.items
@@ -241,7 +241,7 @@ fn remark(
     push_thing(&mut out, asked, verdict)?;
     push_word(&mut out, words_of(verdict))?;
     push_closing(alloc, &mut out, verdict)?;
-    push_log_line(&mut out, facts.number, &facts.line)?;
+    push_log_text(alloc, &mut out, facts, verdict)?;
     push_advice(&mut out, asked, verdict)?;
     Ok(out)
 }
@@ -347,7 +347,7 @@ fn on_place(
     asked: &Asked<'_>,
     given: &[u8],
     verdict: &Verdict,
-    facts: &Facts,
+    facts: &Facts<'_>,
 ) -> Result<Option<Vec<u8>>, NoMemory>
     requires { IsReportableVerdict verdict.now }
     ensures { IfOk result (MakesSome (spec.on_place (asked_view asked.now) given.now verdict.now
@@ -365,7 +365,7 @@ fn of_verdict(
     asked: &Asked<'_>,
     given: &[u8],
     verdict: &Verdict,
-    facts: &Facts,
+    facts: &Facts<'_>,
 ) -> Result<Option<Vec<u8>>, NoMemory>
     requires { IsReportableVerdict verdict.now }
     ensures { IfOk result (MakesSome (spec.of_verdict (asked_view asked.now) given.now verdict.now
@@ -384,7 +384,7 @@ fn on_report(
     status: Status,
     verdict: Option<Verdict>,
     given: &[u8],
-    facts: &Facts,
+    facts: &Facts<'_>,
 ) -> Result<Option<Vec<u8>>, NoMemory>
     requires { MatchOption verdict ⊤ IsReportableVerdict }
     ensures { IfOk result (MakesSome (spec.on_report (asked_view asked.now) status verdict given.now
@@ -414,7 +414,7 @@ pub(crate) fn message(
     status: Status,
     verdict: Option<Verdict>,
     given: &[u8],
-    facts: &Facts,
+    facts: &Facts<'_>,
 ) -> Result<Option<Vec<u8>>, NoMemory>
     requires { MatchOption verdict ⊤ IsReportableVerdict }
     ensures { IfOk result (MakesSome (spec.message (asked_view asked.now) status verdict given.now

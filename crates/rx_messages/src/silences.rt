@@ -1,7 +1,8 @@
 //! Why a message isn't written whole.
-ghost use Rattle.rx_messages.specs.Steps.{MeansEnd};
+ghost use Rattle.rx_messages.specs.Steps.{MeansEnd, MeansLook};
 
 use rx_io::ReadEnd;
+use rx_logstate::LookEnd;
 use rx_plain::NoMemory;
 use thiserror::Error;
 
@@ -41,5 +42,16 @@ pub(crate) fn silence_of(end: ReadEnd) -> Silence
     match end {
         ReadEnd::NoMemory => Silence::NoMemory,
         ReadEnd::Failed | ReadEnd::TooLong => Silence::Unread,
+    }
+}
+
+/// What a fault of a look at a log means for the message.
+pub(crate) fn silence_of_look(end: LookEnd) -> Silence
+    ensures { MeansLook end result }
+{
+    match end {
+        LookEnd::NoMemory => Silence::NoMemory,
+        LookEnd::Unread => Silence::Unread,
+        LookEnd::NoPlace => Silence::Changed,
     }
 }

@@ -3,6 +3,7 @@
 use crate::changes::{Change, instead, joined, long, without};
 use crate::depth::written;
 use crate::devices::{Inlet, Outlet};
+use crate::saying::said;
 use rx_cli::{Status, run};
 use rx_io::{MemoryFiles, MemorySink};
 use rx_log::Log;
@@ -10,7 +11,7 @@ use rx_logtext::read_log;
 use rx_logwriting::write_log;
 use std::alloc::Global;
 use std::str;
-use test_lines::{add_file, words_of};
+use test_lines::{add_file, is_text_of, words_of};
 
 /// What was given so far of a case.
 #[derive(Drop)]
@@ -153,6 +154,17 @@ impl Case {
         Some(found.as_str() == wanted)
     }
 
+    // Whether a run says this on standard error; the change of the log stays.
+    fn says(&self, alloc: Global, wanted: &str) -> Option<bool> {
+        let mut log = joined(alloc, &self.log, &self.change)?;
+        if let Some(bytes) = self.cut {
+            log.truncate(bytes);
+        }
+        let source = joined(alloc, &self.source, &None)?;
+        let files = files_of(alloc, source, log, Inlet::new(alloc, 4096))?;
+        is_text_of(alloc, &said(alloc, &self.words, files)?, wanted)
+    }
+
     // Whether a run, over the source alone, writes the log that is given.
     fn writes(&self, alloc: Global) -> Option<bool> {
         let source = joined(alloc, &self.source, &None)?;
@@ -254,6 +266,7 @@ impl Case {
         let (word, rest) = line.split_once(' ').unwrap_or((line, ""));
         match word {
             "gives" => Some(Some(self.gives(alloc, rest)?)),
+            "says" => Some(Some(self.says(alloc, rest)?)),
             "writes" => Some(Some(self.writes(alloc)?)),
             "puts" => Some(Some(self.puts(alloc, rest)?)),
             "deep" => Some(Some(is_written(alloc, rest)?)),

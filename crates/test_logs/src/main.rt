@@ -11,10 +11,11 @@
 //! without it each check is run over files that give 1, 7, 64 and 4,096 bytes a call, and the
 //! reports have to be the same. `puts S N` wants the status S and N bytes written; before it, `into
 //! P ROOM; F ..; Z ..` has a sink that takes at most P bytes a call and ROOM in all, of which the
-//! calls F fail and the calls Z write nothing. `deep N` says how a log is written whose one
+//! calls F fail and the calls Z write nothing. `says` wants what the run says on standard error, over
+//! the log with the changes that are given so far, which stay; `\n` is a line end. `deep N` says how a log is written whose one
 //! certificate is N deep. `writes` wants that the run, over the source alone, ends with status 0
 //! and writes the log. `then` goes on with another command line over the same files. A line that
-//! begins with `#` is a heading. The program prints each `gives` and each `writes` that doesn't
+//! begins with `#` is a heading. The program prints each `gives`, `says` and `writes` that doesn't
 //! hold with the word `differs`, each line that it can't read with `unread`, and at the end how
 //! many hold.
 #![tactic(auto)]
@@ -23,6 +24,7 @@ mod cases;
 mod changes;
 mod depth;
 mod devices;
+mod saying;
 
 use crate::cases::Case;
 use std::alloc::Global;

@@ -30,7 +30,7 @@ fn messaged(
 {
     let mut files = plain_file(alloc, source)?;
     let mut err = plain_sink(alloc)?;
-    let outcome = explain(alloc, words, status, verdict, &mut files, &mut err);
+    let outcome = explain(alloc, words, status, verdict, None, &mut files, &mut err);
     told(alloc, outcome, err.put_so_far())
 }
 

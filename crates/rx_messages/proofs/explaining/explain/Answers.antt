@@ -1,12 +1,13 @@
 -- Where the log can't be read, nothing is written.
 use Rattle.std.specs.Prelude.{◌≡◌, map, string_bytes}
-use Rattle.std.proofs.Common.{Global}
 use Rattle.std.proofs.Common.{◌∙◌, ap}
 use Rattle.std.proofs.lemmas.Result.{err_from_is_err_and}
+use Rattle.std.specs.Option.{option_copied}
 use Rattle.rx_command.specs.Commands as words_say
 use Rattle.rx_io.specs.Outside.{Rose}
-use Rattle.rx_messages.specs.Asked.{Asked, asked_of, asked_view}
-use Rattle.rx_messages.proofs.ExplainLemmas.{no_facts}
+use Rattle.rx_messages.specs.Asked.{asked_of, asked_view}
+use Rattle.rx_messages.specs.Logs.{facts_view}
+use Rattle.rx_messages.proofs.ExplainLemmas.{no_facts, other_text}
 use Rattle.rx_messages.proofs.explaining.explain.Goals as goal
 
 pub returns-in_err-facts-clause-explains : goal.returns-in_err-facts-clause-explains
@@ -21,6 +22,20 @@ returns-in_err-facts-clause-explains g c =
     (g.F.Files.faults c.facts_of.new.files)
     (Rose (g.O.Sink.faults c.args.err.now) (g.O.Sink.faults c.args.err.now))
     (asked_of (words_say.command_of (map string_bytes c.args.words.now)))
-    (asked_view c.asked_of-asked.result) c.args.status c.args.verdict
+    (asked_view c.asked_of-asked.result) (option_copied c.args.posed) c.args.status c.args.verdict
     (g.O.Sink.contents c.args.err.now) c.in_err-facts.field-0.0
     c.in_ok-given.ensures.held c.in_ok-given.ensures.later is c.in_err-facts.ensures.finds)
+
+pub returns-in_default-clause-explains : goal.returns-in_default-clause-explains
+returns-in_default-clause-explains g c =
+    let is : asked_view c.asked_of-asked.result
+    ≡ asked_of (words_say.command_of (map string_bytes c.args.words.now)) =
+    c.asked_of-asked.ensures ∙ ap asked_of c.in_ok-command.ensures.command in
+    other_text (g.F.Files.held c.args.files.now) (g.F.Files.held c.read_given.new.files)
+    (asked_of (words_say.command_of (map string_bytes c.args.words.now)))
+    (asked_view c.asked_of-asked.result) (option_copied c.args.posed) c.args.status c.args.verdict
+    (g.O.Sink.contents c.args.err.now) (words_say.bytes_of c.name_read.result)
+    c.in_ok-given.given.items c.deref.result.now (facts_view c.in_ok-facts.facts)
+    c.in_ok-text.field-0 c.in_ok-given.ensures.held is c.name_read.ensures
+    c.in_ok-given.ensures.reads c.deref.ensures.value c.in_ok-facts.ensures.finds
+    c.in_ok-text.ensures c.in_default.is

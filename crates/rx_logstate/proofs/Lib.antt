@@ -1,0 +1,3 @@
+-- Lemmas on logs that are read up to a step.
+pub mod LookLemmas
+pub mod StepLemmas

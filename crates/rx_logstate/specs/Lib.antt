@@ -1,0 +1,3 @@
+-- The state of a proof at a step of its log.
+pub mod AtSteps
+pub mod Following

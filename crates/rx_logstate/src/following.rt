@@ -1,0 +1,227 @@
+//! The state of a proof while the lines of its log come.
+ghost use Rattle.std.specs.Prelude.{◌≡◌, ◌+◌, ◌∷◌, ◌++◌, [], ℕ, List, false, min, IfOk, OnOk};
+ghost use Rattle.rx_inference.specs.declared.step.Step.{Step};
+ghost use Rattle.rx_log.specs.Reading.{blank, pushed};
+ghost use Rattle.rx_log.specs.declared.log.Log.{Log};
+ghost use Rattle.rx_term.specs.declared.rule.Equation.{Equation};
+ghost use Rattle.rx_term.specs.declared.rule_set.RuleParts.{RuleParts};
+ghost use Rattle.rx_logstate.specs.Following.{Arrives, Concludes, Follows, FollowsNext, SaysFault};
+
+use crate::at_step::AtStep;
+use rx_inference::Step;
+use rx_log::Line;
+use rx_pairs::RankTable;
+use rx_plain::{Items, NoMemory};
+use rx_poly::Poly;
+use rx_steps::{State, StepEnd, apply_owned};
+use rx_term::{Equation, RuleSet};
+use std::alloc::Global;
+
+/// Whether a step wasn't accepted, by how its application ended; NoMemory where that isn't known.
+fn is_fault(end: Result<(), StepEnd>) -> Result<bool, NoMemory>
+    ensures { IfOk result (SaysFault end) }
+{
+    match end {
+        Ok(()) => Ok(false),
+        Err(StepEnd::NoMemory) => Err(NoMemory),
+        Err(
+            StepEnd::NoGoal
+            | StepEnd::WrongShape
+            | StepEnd::NoSuchRule
+            | StepEnd::NotShown { condition: _ }
+            | StepEnd::Large,
+        ) => Ok(true),
+    }
+}
+
+/// How far steps have brought a proof.
+#[derive(Drop)]
+struct Reached {
+    // The state after them, as far as they are accepted.
+    state: State,
+    // Whether one of them isn't.
+    is_refused: bool,
+}
+
+impl Reached {
+    /// Takes a step, where those so far are accepted.
+    fn apply(&mut self, alloc: Global, rules: &RuleSet, step: Step) -> Result<(), NoMemory>
+        requires { self.old.is_refused ≡ false }
+        ensures { OnOk result ((goal : Equation) (steps : List Step) →
+            Arrives self.old rules.now goal steps →
+            Arrives self.new rules.now goal (steps ++ step ∷ [])) }
+    {
+        let end = apply_owned(alloc, &mut self.state, rules, step);
+        self.is_refused = is_fault(end)?;
+        Ok(())
+    }
+
+    /// Takes a step.
+    fn take(&mut self, alloc: Global, rules: &RuleSet, step: Step) -> Result<(), NoMemory>
+        ensures { OnOk result ((goal : Equation) (steps : List Step) →
+            Arrives self.old rules.now goal steps →
+            Arrives self.new rules.now goal (steps ++ step ∷ [])) }
+    {
+        if self.is_refused {
+            drop(step);
+            return Ok(());
+        }
+        self.apply(alloc, rules, step)
+    }
+}
+
+/// What is kept of a log whose lines come one by one.
+#[derive(Drop)]
+pub(crate) struct Follower {
+    // The number of the step that is looked for.
+    number: usize,
+    // How many covers came.
+    covers: usize,
+    // How many steps came.
+    steps: usize,
+    // How far those before the number have brought the proof.
+    reached: Reached,
+    // The step that is looked for, once it came.
+    step: Items<Step>,
+    // The ranks so far.
+    table: RankTable,
+}
+
+/// The number after this one; NoMemory where there is none.
+fn count_after(count: usize) -> Result<usize, NoMemory>
+    ensures { IfOk result (λ next. next ≡ count + 1) }
+{
+    match count.checked_add(1) {
+        Some(next) => Ok(next),
+        None => Err(NoMemory),
+    }
+}
+
+impl Follower {
+    /// Nothing has come yet, for the goal and any rules.
+    pub(crate) fn start(alloc: Global, goal: Equation, number: usize) -> Result<Follower, NoMemory>
+        ensures follows { IfOk result (λ follower. (parts : RuleParts) →
+            Follows follower parts goal number blank) }
+    {
+        let state = State::start(alloc, goal)?;
+        let reached = Reached {
+            state,
+            is_refused: false,
+        };
+        let table = RankTable {
+            columns: 1,
+            ranks: Items::new(alloc),
+        };
+        Ok(Follower {
+            number,
+            covers: 0,
+            steps: 0,
+            reached,
+            step: Items::new(alloc),
+            table,
+        })
+    }
+
+    /// Takes a step: one before the number is applied, the one with the number is kept. It isn't
+    /// counted.
+    fn place_step(&mut self, alloc: Global, rules: &RuleSet, step: Step) -> Result<(), NoMemory>
+        ensures places { OnOk result ((goal : Equation) (number : ℕ) (log : Log) →
+            Follows self.old rules.now goal number log →
+            FollowsNext self.new rules.now goal number (pushed (Line.Step step) log)) }
+        ensures counted { OnOk result (self.new.steps ≡ self.old.steps) }
+    {
+        if self.steps < self.number {
+            self.reached.take(alloc, rules, step)?;
+            return Ok(());
+        }
+        if self.steps == self.number {
+            self.step.push(step)?;
+            return Ok(());
+        }
+        drop(step);
+        Ok(())
+    }
+
+    /// Takes a step: one before the number is applied, the one with the number is kept.
+    fn take_step(&mut self, alloc: Global, rules: &RuleSet, step: Step) -> Result<(), NoMemory>
+        ensures { OnOk result ((goal : Equation) (number : ℕ) (log : Log) →
+            Follows self.old rules.now goal number log →
+            Follows self.new rules.now goal number (pushed (Line.Step step) log)) }
+    {
+        self.place_step(alloc, rules, step)?;
+        self.steps = count_after(self.steps)?;
+        Ok(())
+    }
+
+    /// Counts a cover.
+    fn take_cover(&mut self) -> Result<(), NoMemory>
+        ensures { OnOk result (self.new ≡ record self.old { covers = self.old.covers + 1 }) }
+    {
+        self.covers = count_after(self.covers)?;
+        Ok(())
+    }
+
+    /// Keeps a rank.
+    fn take_rank(&mut self, rank: Items<Poly>) -> Result<(), NoMemory>
+        ensures { OnOk result (self.new ≡ record self.old {
+          table = record self.old.table { ranks = self.old.table.ranks ++ rank ∷ [] };
+        }) }
+    {
+        self.table.ranks.push(rank)?;
+        Ok(())
+    }
+
+    /// Takes a line. After an `Err` it is of no more use.
+    pub(crate) fn line(
+        &mut self,
+        alloc: Global,
+        rules: &RuleSet,
+        line: Line,
+    ) -> Result<(), NoMemory>
+        ensures { OnOk result ((goal : Equation) (number : ℕ) (log : Log) →
+            Follows self.old rules.now goal number log →
+            Follows self.new rules.now goal number (pushed line log)) }
+    {
+        match line {
+            Line::Header => Ok(()),
+            Line::Cover(_trees) => self.take_cover(),
+            Line::Step(step) => self.take_step(alloc, rules, step),
+            Line::Ranks(columns) => {
+                self.table.columns = columns;
+                Ok(())
+            }
+            Line::Rank(rank) => self.take_rank(rank),
+            Line::Pair(_cert) => Ok(()),
+            Line::End => Ok(()),
+        }
+    }
+
+    /// The number of the line of the step that is looked for, or of the one after the last.
+    fn line_number(&self) -> Result<usize, NoMemory>
+        ensures { IfOk result (λ line. line ≡ self.now.covers + 2 + min self.now.number self.now.steps) }
+    {
+        let steps = self.number.min(self.steps);
+        let before = count_after(count_after(self.covers)?)?;
+        match before.checked_add(steps) {
+            Some(line) => Ok(line),
+            None => Err(NoMemory),
+        }
+    }
+
+    /// What is known where the whole log has come; none where a step before isn't accepted.
+    pub(crate) fn finish(self) -> Result<Option<AtStep>, NoMemory>
+        ensures { IfOk result (λ found. (parts : RuleParts) (goal : Equation) (number : ℕ) (log : Log) →
+            Follows self parts goal number log → Concludes parts goal log number found) }
+    {
+        let line = self.line_number()?;
+        if self.reached.is_refused {
+            return Ok(None);
+        }
+        Ok(Some(AtStep {
+            line,
+            state: self.reached.state,
+            step: self.step,
+            table: self.table,
+        }))
+    }
+}
