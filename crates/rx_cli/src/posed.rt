@@ -75,7 +75,9 @@ pub fn problem_of_words<F: Files>(
         Some(Command::Compare(comparison)) => {
             problem_of(alloc, &functions_of(&comparison), files)
         }
-        Some(Command::Rules(_) | Command::Translate(_) | Command::Demo(_)) => Ok(None),
+        Some(Command::Rules(_)) => Ok(None),
+        Some(Command::Translate(_)) => Ok(None),
+        Some(Command::Demo(_)) => Ok(None),
         None => Ok(None),
     }
 }

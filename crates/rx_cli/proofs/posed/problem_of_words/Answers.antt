@@ -30,3 +30,9 @@ returns-in-Some-Compare-clause-poses g c =
     (Rose (g.F.Files.faults c.args.files.now) (g.F.Files.faults c.problem_of.new.files)) f problem)
     c.functions_of.ensures poses))
     c.problem_of.ensures.poses
+
+pub returns-in-Some-Rules-clause-reach : goal.returns-in-Some-Rules-clause-reach
+returns-in-Some-Rules-clause-reach g c = g.met.F.Files.reaches_same c.args.files.now
+
+pub returns-in-Some-Demo-clause-reach : goal.returns-in-Some-Demo-clause-reach
+returns-in-Some-Demo-clause-reach g c = g.met.F.Files.reaches_same c.args.files.now
