@@ -48,7 +48,7 @@ rule_line_of verdict = None
 abbrev pub words_of : Verdict → List ℕ
 words_of Said.Equivalent = []
 words_of Said.NoRanks =
-    codes "no ranks are found by which both functions and all that they call go down"
+    codes "no ranks are found by which all calls go down, of both functions or of the rules"
 words_of (Said.Depth depth) = codes "no proof with so few choices is found"
 words_of (Said.Visits visits) = codes "no proof is found in so many visits"
 words_of (Said.Demo pairs equivalent) = codes "not all examples are proved"
@@ -83,7 +83,7 @@ abbrev pub tries_after_check : CheckEnd → Option (List ℕ)
 tries_after_check (End.Step step end) = Some (codes "docs/STEPS.md, which says what each step asks")
 tries_after_check (End.Unfinished goals) = Some (codes "more steps")
 tries_after_check (End.NotCovered symbol) =
-    Some (codes "docs/LOG-FORMAT.md; a log is for two functions in their order")
+    Some (codes "docs/LOG-FORMAT.md; a log is for two functions in their order, or for one rule text")
 tries_after_check (End.BadRanks symbol) = Some (codes "another rank table")
 tries_after_check (End.NotLower pair) = Some (codes "another rank table")
 tries_after_check (End.Large place) = Some (codes "another proof")
@@ -96,10 +96,10 @@ tries_of Said.NoRanks =
     "a base case that ends everywhere, n <= 0 in place of n == 0; a loop with its test in front")
 tries_of (Said.Depth depth) =
     Some (codes
-    "a greater --depth; --pre, if it is to hold for some arguments only; smaller parts")
+    "a greater --depth; --pre (of a rule text: rows), if it is to hold for some arguments only; smaller parts")
 tries_of (Said.Visits visits) =
     Some (codes
-    "a greater --budget; --pre, if it is to hold for some arguments only; smaller parts")
+    "a greater --budget; --pre (of a rule text: rows), if it is to hold for some arguments only; smaller parts")
 tries_of Said.LongSource = Some (codes "to leave out what the two functions don't need")
 tries_of (Said.NoFunction name) = Some (codes "another spelling of the name")
 tries_of (Said.Arity first second) = Some (codes "the same parameters for both, in the same order")

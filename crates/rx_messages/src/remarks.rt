@@ -66,7 +66,7 @@ pub(crate) fn words_of(verdict: &Verdict) -> &'static [u8]
     match verdict {
         Verdict::Equivalent => b"",
         Verdict::NoRanks => {
-            b"no ranks are found by which both functions and all that they call go down"
+            b"no ranks are found by which all calls go down, of both functions or of the rules"
         }
         Verdict::Depth(_) => b"no proof with so few choices is found",
         Verdict::Visits(_) => b"no proof is found in so many visits",
@@ -104,7 +104,9 @@ fn tries_after_check(end: CheckEnd) -> Option<&'static [u8]>
         CheckEnd::Step { .. } => Some(b"docs/STEPS.md, which says what each step asks"),
         CheckEnd::Unfinished { .. } => Some(b"more steps"),
         CheckEnd::NotCovered { .. } => {
-            Some(b"docs/LOG-FORMAT.md; a log is for two functions in their order")
+            Some(
+                b"docs/LOG-FORMAT.md; a log is for two functions in their order, or for one rule text",
+            )
         }
         CheckEnd::BadRanks { .. } | CheckEnd::NotLower { .. } => Some(b"another rank table"),
         CheckEnd::Large { .. } => Some(b"another proof"),
@@ -124,12 +126,12 @@ pub(crate) fn tries_of(verdict: &Verdict) -> Option<&'static [u8]>
         }
         Verdict::Depth(_) => {
             Some(
-                b"a greater --depth; --pre, if it is to hold for some arguments only; smaller parts",
+                b"a greater --depth; --pre (of a rule text: rows), if it is to hold for some arguments only; smaller parts",
             )
         }
         Verdict::Visits(_) => {
             Some(
-                b"a greater --budget; --pre, if it is to hold for some arguments only; smaller parts",
+                b"a greater --budget; --pre (of a rule text: rows), if it is to hold for some arguments only; smaller parts",
             )
         }
         Verdict::LongSource => Some(b"to leave out what the two functions don't need"),
