@@ -45,8 +45,8 @@ fn run_words(rt: &HostRuntime, words: &[String]) -> Ending
     run_told(rt.alloc(), words, &mut files, &mut out)
 }
 
-/// The problem that the words pose, where what was reported is about a log; none where there is no
-/// memory.
+/// The problem that the words pose, where what was reported is about a log of two functions; none
+/// where their text can't be read any more or poses none, and where there is no memory.
 fn posed_by(rt: &HostRuntime, words: &[String], ending: &Ending) -> Option<Posed> {
     let Some(Verdict::Check(_)) = ending.verdict else {
         return None;
