@@ -22,7 +22,7 @@ use Rattle.rx_code.specs.Translation.{IsTranslation, goal_at}
 use Rattle.rx_agreement.specs.Agreement.{ReachConvertible, ReturnAlike}
 use Rattle.rx_agreement.proofs.Translated.{return_alike}
 use Rattle.rx_pairs.specs.declared.table.RankTable.{RankTable}
-use Rattle.rx_proofs.specs.Goals.{Inside}
+use Rattle.rx_proofs.specs.Goals.{Fitting}
 use Rattle.rx_proofs.specs.Runs.{IsProof}
 use Rattle.rx_proofs.proofs.Runs.{proof_ends_alike}
 
@@ -35,7 +35,7 @@ entry_at f xs =
 
 -- results that are convertible, reached from what two terms are equal to
 reached_from : (parts : RuleParts) (s t u v : Ground) → s ≡ u → t ≡ v →
-    HaveConvertibleNormalForms (Inside parts) (Instance parts.rules) s t →
+    HaveConvertibleNormalForms (Fitting parts) (Instance parts.rules) s t →
     ReachConvertible parts.rules u v
 reached_from parts s t u v is_u is_v ends = record {
   left = ends.left.end;

@@ -1,5 +1,5 @@
 -- The example has a translation, and its two entries are proved equal.
-use Rattle.std.proofs.Common.{◌≡◌, ◌∙◌, ap, sym, subst, refl, true, ◌&&◌, ◌⊎◌, inl, inr, ℕ, ◌<◌, Some, None, Ok, List, [], ◌∷◌, pos, arith}
+use Rattle.std.proofs.Common.{◌≡◌, ◌∙◌, ap, sym, subst, refl, true, ◌&&◌, ◌||◌, ◌⊎◌, inl, inr, ℕ, ◌<◌, Some, None, Ok, List, [], ◌∷◌, pos, arith}
 use Rattle.std.specs.Prelude.{Contains, nat_lt, slice_get}
 use Rattle.std.specs.List.{list_all}
 use Rattle.std.proofs.lemmas.Bool.{and_from}
@@ -25,8 +25,8 @@ use Rattle.rx_term.specs.WellMade.{IsMade, IsWellMade, OfPoint, width}
 use Rattle.rx_term.specs.declared.rule.Equation.{Equation}
 use Rattle.rx_term.specs.declared.term.Sym.{Sym}
 use Rattle.rx_term.specs.declared.term.Term.{Term}
-use Rattle.rx_term.specs.declared.term.Term.TheVariants.{Call, Return}
-use Rattle.rx_term.proofs.Equations.{arguments-Call, arguments-Return, below-Return, fits-Call, fits-Return, subst_term-Return, redex-Call, shape-Call, shape-Return, within-Return}
+use Rattle.rx_term.specs.declared.term.Term.TheVariants.{Call, Return, outs-Call, outs-Return}
+use Rattle.rx_term.proofs.Equations.{arguments-Call, arguments-Return, below-Return, depth-Call, depth-Return, fits-Call, fits-Return, subst_term-Return, redex-Call, shape-Call, shape-Return, within-Return}
 use Rattle.rx_plain.proofs.Kept.{first_one, first_or_other, other_one}
 use Rattle.c_ast.specs.declared.program.Function.{Function}
 use Rattle.c_ast.specs.Scoped.{is_scoped}
@@ -46,9 +46,11 @@ use Rattle.rx_cover.specs.Trees.{tree_finding}
 use Rattle.rx_cover.specs.declared.cover_tree.CoverTree.{CoverTree}
 use Rattle.rx_cover.specs.declared.cover_tree.CoverTree.TheVariants.{Use}
 use Rattle.rx_cover.proofs.Equations.{finding_use}
-use Rattle.rx_pairs.specs.Pairs as pairs
-use Rattle.rx_pairs.specs.Pairs.{AreAllPairs, ArePairs, AtReturn, OfCall, PairsOf, part}
+use Rattle.rx_pairs.specs.Inside.{descends_in, descent_in, is_empty as has_none, listed_before, listing, pairs_in, root_rows}
+use Rattle.rx_pairs.specs.Listed.{pairs_by}
+use Rattle.rx_pairs.specs.Lowering.{Descends}
 use Rattle.rx_pairs.specs.Ranks.{bad_rank}
+use Rattle.rx_pairs.specs.declared.listing.Listing.{Listing}
 use Rattle.rx_inference.specs.Judging.{Shown, judged}
 use Rattle.rx_inference.specs.Kinds.{formed_on}
 use Rattle.rx_inference.specs.Pieces.{asking}
@@ -57,7 +59,7 @@ use Rattle.rx_inference.specs.declared.step.Delete.TheVariants.{Equal}
 use Rattle.rx_inference.specs.declared.step.Side.TheVariants.{Left, Right}
 use Rattle.rx_inference.specs.declared.step.Step.TheVariants.{Simplify, Delete}
 use Rattle.rx_inference.proofs.FormingLaws.{shown_taken}
-use Rattle.rx_proofs.specs.Runs.{IsProof, Run, NoStep, OneMore, start, finished}
+use Rattle.rx_proofs.specs.Runs.{IsProof, NoDomains, Run, NoStep, OneMore, start, finished}
 use Rattle.rx_agreement.specs.SoundnessExample.{a, b, example, first, second, parts, returns, table}
 
 -- ---- the translation
@@ -230,17 +232,31 @@ over_nothing =
 table_lawful : bad_rank parts table ≡ None
 table_lawful = rw over_nothing refl
 
-pairs_of : (s : Sym) → ArePairs (returns s) []
-pairs_of s = PairsOf (part s []) (OfCall s []) [] (AtReturn (number (pos 0)))
+no_pairs : (s : Sym) (rows : List Row) →
+    pairs_by (record { left = Call s []; right = zero; rows = rows }) ≡ []
+no_pairs s rows =
+    rw (
+      outs-Call s [],
+      depth-Call s [],
+      depth-Return (number (pos 0)),
+      outs-Return (number (pos 0)),
+    ) refl
 
-all_pairs : AreAllPairs parts.rules []
-all_pairs =
-    pairs.OneMore (returns first) (returns (symbol 1) ∷ returns second ∷ returns (symbol 3) ∷ []) []
-    [] (pairs_of first)
-    (pairs.OneMore (returns (symbol 1)) (returns second ∷ returns (symbol 3) ∷ []) [] []
-    (pairs_of (symbol 1))
-    (pairs.OneMore (returns second) (returns (symbol 3) ∷ []) [] [] (pairs_of second)
-    (pairs.OneMore (returns (symbol 3)) [] [] [] (pairs_of (symbol 3)) pairs.NoRules)))
+returns_in : (s : Sym) → pairs_in parts (returns s) ≡ record { form = []; within = true }
+returns_in s = λ i. record {
+  form = no_pairs s (root_rows parts (returns s)).form i;
+  within = has_none (no_pairs s [] i) || (root_rows parts (returns s)).within;
+}
+
+abbrev nothing : Listing
+nothing = record { pairs = []; whole = true }
+
+listed : listing parts parts.rules ≡ nothing
+listed = λ i. listed_before (returns_in first i) (listed_before (returns_in (symbol 1) i)
+    (listed_before (returns_in second i) (listed_before (returns_in (symbol 3) i) nothing)))
+
+descends : descends_in parts parts.rules table [] ≡ Descends
+descends = ap (λ (l : Listing). descent_in table l.whole 0 l.pairs []) listed
 
 -- ---- the run
 
@@ -311,13 +327,13 @@ example_run =
 pub example_proof : IsProof parts (goal_at first second 0 []) [] table
 example_proof = record {
   made = example_made;
+  domains = refl;
   fits = record { left = first_fits; right = second_fits };
+  kept = NoDomains refl;
   trees = trees;
   covers = example_covered;
   run = example_run;
   lawful = table_lawful;
-  pairs = [];
-  all_pairs = all_pairs;
   certs = [];
-  descends = refl;
+  descends = descends;
 }

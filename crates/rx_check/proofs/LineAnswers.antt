@@ -10,7 +10,6 @@ use Rattle.rx_cover.specs.declared.cover_tree.CoverTree.{CoverTree}
 use Rattle.rx_pairs.specs.Lowering.{Descends}
 use Rattle.rx_pairs.specs.Lowering as lowering
 use Rattle.rx_pairs.specs.Pairs.{HasRoot}
-use Rattle.rx_pairs.specs.declared.pair.Pair.{Pair}
 use Rattle.rx_pairs.specs.declared.pair_cert.PairCert.{PairCert}
 use Rattle.rx_log.specs.Acceptance.{IsAccepted, after_step, once_covered}
 use Rattle.rx_log.specs.Places.{after, after_all}
@@ -87,20 +86,17 @@ step_keeps_roots parts k old new step (Err e) is kept rooted =
 pub pair_answers : (parts : RuleParts) (place : LineState) (cert : PairCert) (old : Progress)
     (lower : ℕ) (failure : Option CheckEnd)
     → AsksRanks parts place old.table None → lower ≡ old.lower + 1
-    → (lent : List Pair) → lent ≡ old.pairs → (outcome : Result (Unit {0}) CheckEnd) →
-    IsFailureOf outcome failure
+    → (outcome : Result (Unit {0}) CheckEnd) → IsFailureOf outcome failure
     → Finds (λ (done : Unit {0}). done) outcome
-    (once_lower (lowering.goes_on old.lower (one_lower old.table (slice_get lent old.lower) cert)
-    Descends) passed)
+    (once_lower (lowering.goes_on old.lower
+    (one_lower old.listing.whole old.table (slice_get old.listing.pairs old.lower) cert) Descends)
+    passed)
     → Judged parts place (line.Pair cert) old (record old { lower = lower }) failure
-pair_answers parts place cert old lower failure asks next lent same outcome is found =
+pair_answers parts place cert old lower failure asks next outcome is found =
     pair_judged parts place cert old lower failure asks next
-    (subst (λ pairs. IsOutcome failure (once_lower
-    (lowering.goes_on old.lower (one_lower old.table (slice_get pairs old.lower) cert) Descends)
-    passed)) same
     (ends_of tt (once_lower (lowering.goes_on old.lower
-    (one_lower old.table (slice_get lent old.lower) cert) Descends) passed) outcome failure is
-    found))
+    (one_lower old.listing.whole old.table (slice_get old.listing.pairs old.lower) cert) Descends)
+    passed) outcome failure is found)
 
 -- ---- what is kept
 

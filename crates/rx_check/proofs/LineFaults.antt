@@ -9,7 +9,7 @@ use Rattle.rx_pairs.specs.Lowering.{Descends, Descent}
 use Rattle.rx_pairs.specs.Lowering as lowering
 use Rattle.rx_pairs.specs.Ranks.{bad_rank}
 use Rattle.rx_pairs.specs.declared.table.RankTable.{RankTable}
-use Rattle.rx_log.specs.Acceptance.{AtCover, AtPair, Accepted, Checked, Concludes, HasVerdict, LogFault, Verdict, ◌>>=◌, after_steps, kept, kept_by, of_descent, once_covered, once_finished, once_ranked, start}
+use Rattle.rx_log.specs.Acceptance.{AtCover, AtPair, Checked, HasVerdict, LogFault, ◌>>=◌, after_steps, concluded, kept, kept_by, of_descent, once_covered, once_finished, once_ranked, start}
 use Rattle.rx_log.specs.Acceptance as log_fault
 use Rattle.rx_log.specs.declared.log.Log.{Log}
 use Rattle.rx_log.specs.declared.line_state.LineState.{LineState}
@@ -82,8 +82,7 @@ module _ (parts : RuleParts) (goal : Equation) (whole : Log) where
   -- before the pairs, a fault decides
   pub fails_before : (fault : LogFault) → kept parts goal whole ≡ Err fault →
       HasVerdict parts goal whole (log_fault.Fails fault)
-  fails_before fault e =
-      subst (λ check. Concludes parts whole check (log_fault.Fails fault)) (sym e) refl
+  fails_before fault e = ap (concluded parts whole) e
 
   -- so does one of the covers
   pub uncovered : (fault : LogFault) → once_covered (covering parts whole.covers) passed ≡ Err fault

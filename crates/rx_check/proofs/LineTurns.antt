@@ -1,5 +1,5 @@
 -- What each line of a log makes of what was kept at its place.
-use Rattle.std.proofs.Common.{◌≡◌, ◌∙◌, ap, sym, subst, refl, ℕ, ◌+◌, ◌<◌, ◌≤◌, Option, Some, None, Result, Ok, Err, List, [], ◌∷◌, ◌++◌, drop, slice_get, length, append_assoc, arith, drop_of_length-le}
+use Rattle.std.proofs.Common.{◌≡◌, ◌∙◌, ap, sym, subst, refl, Bool, true, false, ℕ, ◌+◌, ◌<◌, ◌≤◌, Option, Some, None, Result, Ok, Err, List, [], ◌∷◌, ◌++◌, drop, slice_get, length, append_assoc, arith, drop_of_length-le}
 use Rattle.std.specs.Prelude.{IfOk, OnErr, OnOk}
 use Rattle.std.proofs.lemmas.List.{append-nil}
 use Rattle.std.proofs.lemmas.Option.{same_Some}
@@ -13,14 +13,15 @@ use Rattle.rx_inference.specs.declared.step.Step.{Step}
 use Rattle.rx_cert.specs.Findings.{Beyond, No, Said, Yes}
 use Rattle.rx_cover.specs.Covering.{Covering, Covers, covering, covering_from, goes_on, one_covered, symbol_finding}
 use Rattle.rx_cover.specs.declared.cover_tree.CoverTree.{CoverTree}
-use Rattle.rx_pairs.specs.Lowering.{Descends, Descent, NotLower, descent_from}
+use Rattle.rx_pairs.specs.Inside.{descent_in, listing}
+use Rattle.rx_pairs.specs.Lowering.{Descends, Descent, NotLower}
 use Rattle.rx_pairs.specs.Lowering as lowering
-use Rattle.rx_pairs.specs.Pairs.{AreAllPairs}
+use Rattle.rx_pairs.specs.declared.listing.Listing.{Listing}
 use Rattle.rx_pairs.specs.Ranks.{bad_rank}
 use Rattle.rx_pairs.specs.declared.pair.Pair.{Pair}
 use Rattle.rx_pairs.specs.declared.pair_cert.PairCert.{PairCert}
 use Rattle.rx_pairs.specs.declared.table.RankTable.{RankTable}
-use Rattle.rx_log.specs.Acceptance.{Accepted, Checked, Fails, LogFault, ◌>>=◌, after_step, after_steps, kept, kept_by, of_descent, once_covered, once_ranked, start}
+use Rattle.rx_log.specs.Acceptance.{Accepted, AtPair, Checked, Fails, LogFault, PassesLimits, Verdict, ◌>>=◌, after_step, after_steps, concluded, kept_by, kept, of_descent, once_covered, once_ranked, start, verdict_on}
 use Rattle.rx_log.specs.Acceptance as log_fault
 use Rattle.rx_log.specs.Places.{after}
 use Rattle.rx_log.specs.Reading.{pushed}
@@ -33,10 +34,10 @@ use Rattle.rx_check.specs.Answers.{named}
 use Rattle.rx_check.specs.LineByLine.{Ends, IsOpen, IsRanked, IsOutcome, Judges, passed, FailsWith, Holds, IsKnown, Stands, once_lower, one_lower}
 use Rattle.rx_check.specs.declared.check_end.CheckEnd.{CheckEnd}
 use Rattle.rx_check.specs.declared.check_end.CheckEnd.TheVariants as end
+use Rattle.rx_check.specs.declared.check_end.LimitAt.TheVariants as limit
 use Rattle.rx_check.specs.declared.progress.Progress.{Progress}
 use Rattle.rx_check.proofs.LineFaults.{covers_hold, failed_at, finished, kept_behind, kept_same, pairs_fail, ranks_fail, ranks_hold, refused, uncovered, unfinished}
 use Rattle.rx_check.proofs.LineOrder.{after_cover, after_rank, goes_on_before}
-use Rattle.rx_check.proofs.Sound.{concluded}
 
 -- ---- the header
 
@@ -316,7 +317,7 @@ pub ranks_begin : (parts : RuleParts) (place : LineState) (columns : ℕ) (old n
     Asks parts place None
     → length old.state.goals ≡ 0 → new.state ≡ old.state → new.steps ≡ old.steps → new.lower ≡ 0
     → new.table ≡ record old.table { columns = columns } →
-    AreAllPairs (parts.rules ++ old.state.hypotheses) new.pairs
+    listing parts (parts.rules ++ old.state.hypotheses) ≡ new.listing
     → (goal : Equation) (log : Log) (symbol : ℕ) (behind : LineState) → Holds parts goal place log
     old
     → after place (line.Ranks columns, symbol) ≡ Some behind →
@@ -335,7 +336,7 @@ ranks_begin parts place columns old new asks no_goals state steps lower table al
         record {
           covers = covers_hold (covering parts log.covers) before.0;
           goals = ap (λ s. s.goals) state ∙ empty old.state.goals no_goals;
-          pairs = subst (λ s. AreAllPairs (parts.rules ++ s.hypotheses) new.pairs) (sym state) all;
+          pairs = subst (λ (s : State). listing parts (parts.rules ++ s.hypotheses) ≡ new.listing) (sym state) all;
         },
         (before.1, lower),
       );
@@ -424,10 +425,10 @@ module _ (parts : RuleParts) (goal : Equation) (c n : ℕ) (log : Log) (progress
         (
           holds.known.0.pairs,
           λ more.
-              ap (λ before. descent_from log.table 0 progress.pairs (before ++ more))
-              holds.known.1.0
-              ∙ ap (λ k. descent_from log.table k (drop k progress.pairs) more)
-              (sym holds.known.1.1),
+              ap (λ before. descent_in log.table progress.listing.whole 0 progress.listing.pairs
+              (before ++ more)) holds.known.1.0
+              ∙ ap (λ k. descent_in log.table progress.listing.whole k
+              (drop k progress.listing.pairs) more) (sym holds.known.1.1),
         ),
       )
 
@@ -498,27 +499,40 @@ end_unranked parts place old new end asks goal log symbol behind holds e =
 
 -- ---- pairs
 
-module _ (table : RankTable) (number : ℕ) (pairs : List Pair) (cert : PairCert) where
-  abbrev lowered : Descent → Descent
-  lowered rest = lowering.goes_on number (one_lower table (slice_get pairs number) cert) rest
+module _ (table : RankTable) (number : ℕ) (listing : Listing) (cert : PairCert) where
+  abbrev found : Said
+  found = one_lower listing.whole table (slice_get listing.pairs number) cert
 
-  one_pair : (more : List PairCert) → descent_from table number (drop number pairs) (cert ∷ more)
-      ≡ lowered (descent_from table (number + 1) (drop (number + 1) pairs) more)
-  one_pair more = by_pair (slice_get pairs number) refl where
-    by_pair : (o : Option Pair) → slice_get pairs number ≡ o →
-        descent_from table number (drop number pairs) (cert ∷ more)
-        ≡ lowering.goes_on number (one_lower table o cert)
-        (descent_from table (number + 1) (drop (number + 1) pairs) more)
+  abbrev lowered : Descent → Descent
+  lowered rest = lowering.goes_on number found rest
+
+  one_pair : (more : List PairCert)
+      → descent_in table listing.whole number (drop number listing.pairs) (cert ∷ more)
+      ≡ lowered (descent_in table listing.whole (number + 1) (drop (number + 1) listing.pairs) more)
+  one_pair more = by_pair (slice_get listing.pairs number) refl where
+    behind : (whole : Bool) (rest : Descent) → descent_in table whole number [] (cert ∷ more)
+        ≡ lowering.goes_on number (one_lower whole table None cert) rest
+    behind false rest = refl
+    behind true rest = refl
+
+    by_pair : (o : Option Pair) → slice_get listing.pairs number ≡ o →
+        descent_in table listing.whole number (drop number listing.pairs) (cert ∷ more)
+        ≡ lowering.goes_on number (one_lower listing.whole table o cert)
+        (descent_in table listing.whole (number + 1) (drop (number + 1) listing.pairs) more)
     by_pair None none =
-        ap (λ ps. descent_from table number ps (cert ∷ more)) (from_nowhere pairs number none)
+        ap (λ ps. descent_in table listing.whole number ps (cert ∷ more))
+        (from_nowhere listing.pairs number none)
+        ∙ behind listing.whole
+        (descent_in table listing.whole (number + 1) (drop (number + 1) listing.pairs) more)
     by_pair (Some pair) some =
-        ap (λ ps. descent_from table number ps (cert ∷ more)) (from_place pairs number pair some)
+        ap (λ ps. descent_in table listing.whole number ps (cert ∷ more))
+        (from_place listing.pairs number pair some)
 
   lowered_good : once_lower (lowered Descends) passed ≡ passed → (rest : Descent) → lowered rest ≡
       rest
-  lowered_good e rest = by_found (one_lower table (slice_get pairs number) cert) e where
-    by_found : (found : Said) → once_lower (lowering.goes_on number found Descends) passed ≡ passed
-        → lowering.goes_on number found rest ≡ rest
+  lowered_good e rest = by_found found e where
+    by_found : (said : Said) → once_lower (lowering.goes_on number said Descends) passed ≡ passed
+        → lowering.goes_on number said rest ≡ rest
     by_found Beyond e = absurd cc
     by_found Yes e = refl
     by_found No e = absurd cc
@@ -526,27 +540,44 @@ module _ (table : RankTable) (number : ℕ) (pairs : List Pair) (cert : PairCert
   lowered_bad : (fault : LogFault) → once_lower (lowered Descends) passed ≡ Err fault →
       (rest : Descent)
       → once_lower (lowered rest) passed ≡ Err fault
-  lowered_bad fault e rest = by_found (one_lower table (slice_get pairs number) cert) e where
-    by_found : (found : Said) → once_lower (lowering.goes_on number found Descends) passed ≡
+  lowered_bad fault e rest = by_found found e where
+    by_found : (said : Said) → once_lower (lowering.goes_on number said Descends) passed ≡
         Err fault
-        → once_lower (lowering.goes_on number found rest) passed ≡ Err fault
+        → once_lower (lowering.goes_on number said rest) passed ≡ Err fault
     by_found Beyond e = e
     by_found Yes e = absurd cc
     by_found No e = e
 
+-- where nothing else fails, the pairs that are kept decide
+module _ (parts : RuleParts) (goal : Equation) (whole : Log) (old : Progress)
+    (keeps : kept parts goal whole ≡ Ok old.state.hypotheses)
+    (all : listing parts (parts.rules ++ old.state.hypotheses) ≡ old.listing) where
+  pairs_decide : (verdict : Verdict)
+      → of_descent (descent_in whole.table old.listing.whole 0 old.listing.pairs whole.pairs) ≡
+      verdict → verdict_on parts goal whole ≡ verdict
+  pairs_decide verdict is =
+      ap (concluded parts whole) keeps
+      ∙ ap (λ (l : Listing). of_descent (descent_in whole.table l.whole 0 l.pairs whole.pairs)) all
+      ∙ is
+
 module _ (parts : RuleParts) (goal : Equation) (place : LineState) (log : Log) (old : Progress)
     (holds : Holds parts goal place log old) (known : IsKnown parts goal InPairs log old) where
+  abbrev descent_of : RankTable → List PairCert → Descent
+  descent_of table certs = descent_in table old.listing.whole 0 old.listing.pairs certs
+
+  abbrev descent_left : ℕ → List PairCert → Descent
+  descent_left k certs =
+      descent_in log.table old.listing.whole k (drop k old.listing.pairs) certs
+
   module _ (cert : PairCert) where
-    push_pair : (more : List PairCert) → descent_from log.table 0 old.pairs
-        ((log.pairs ++ cert ∷ []) ++ more)
-        ≡ lowered log.table old.lower old.pairs cert
-        (descent_from log.table (old.lower + 1) (drop (old.lower + 1) old.pairs) more)
+    push_pair : (more : List PairCert) → descent_of log.table ((log.pairs ++ cert ∷ []) ++ more)
+        ≡ lowered log.table old.lower old.listing cert (descent_left (old.lower + 1) more)
     push_pair more =
-        ap (descent_from log.table 0 old.pairs) (append_assoc log.pairs (cert ∷ []) more)
-        ∙ known.1.1 (cert ∷ more) ∙ one_pair log.table old.lower old.pairs cert more
+        ap (descent_of log.table) (append_assoc log.pairs (cert ∷ []) more)
+        ∙ known.1.1 (cert ∷ more) ∙ one_pair log.table old.lower old.listing cert more
 
     pair_stands : (failure : Option CheckEnd) →
-        IsOutcome failure (once_lower (lowered log.table old.lower old.pairs cert Descends) passed)
+        IsOutcome failure (once_lower (lowered log.table old.lower old.listing cert Descends) passed)
         → Stands parts goal InPairs (pushed (line.Pair cert) log)
         (record old { lower = old.lower + 1 }) failure
     pair_stands None e = record {
@@ -557,8 +588,8 @@ module _ (parts : RuleParts) (goal : Equation) (place : LineState) (log : Log) (
         (
           known.1.0,
           λ more. push_pair more
-              ∙ lowered_good log.table old.lower old.pairs cert e
-              (descent_from log.table (old.lower + 1) (drop (old.lower + 1) old.pairs) more),
+              ∙ lowered_good log.table old.lower old.listing cert e
+              (descent_left (old.lower + 1) more),
         ),
       );
     }
@@ -566,58 +597,78 @@ module _ (parts : RuleParts) (goal : Equation) (place : LineState) (log : Log) (
       fault = e.0;
       names = e.1;
       fails = λ whole on.
-          concluded parts goal whole old.state.hypotheses
-          (kept_same parts goal log whole on.0 on.1.0 on.1.1.0 ∙ known.0) old.pairs known.1.0
+          pairs_decide parts goal whole old
+          (kept_same parts goal log whole on.0 on.1.0 on.1.1.0 ∙ known.0) known.1.0
           (Fails e.0)
-          (ap (λ table. of_descent (descent_from table 0 old.pairs whole.pairs)) on.1.1.0
-          ∙ ap (λ certs. of_descent (descent_from log.table 0 old.pairs certs)) on.1.1.1.1
+          (ap (λ table. of_descent (descent_of table whole.pairs)) on.1.1.0
+          ∙ ap (λ certs. of_descent (descent_of log.table certs)) on.1.1.1.1
           ∙ ap of_descent (push_pair on.1.1.1.0)
-          ∙ pairs_fail (lowered log.table old.lower old.pairs cert
-          (descent_from log.table (old.lower + 1) (drop (old.lower + 1) old.pairs) on.1.1.1.0))
+          ∙ pairs_fail (lowered log.table old.lower old.listing cert
+          (descent_left (old.lower + 1) on.1.1.1.0))
           e.0
-          (lowered_bad log.table old.lower old.pairs cert e.0 e.2
-          (descent_from log.table (old.lower + 1) (drop (old.lower + 1) old.pairs)
-          on.1.1.1.0)));
+          (lowered_bad log.table old.lower old.listing cert e.0 e.2
+          (descent_left (old.lower + 1) on.1.1.1.0)));
     }
 
   -- the pairs that are left decide
-  descent_now : descent_from log.table 0 old.pairs log.pairs ≡
-      descent_from log.table old.lower (drop old.lower old.pairs) []
-  descent_now = ap (descent_from log.table 0 old.pairs) (sym (append-nil log.pairs)) ∙ known.1.1 []
+  descent_now : descent_of log.table log.pairs ≡ descent_left old.lower []
+  descent_now = ap (descent_of log.table) (sym (append-nil log.pairs)) ∙ known.1.1 []
 
-  left_stands : (new : Progress) → old.lower < length old.pairs →
-      Stands parts goal Finished log new (Some (end.NotLower old.lower))
-  left_stands new left = record {
-    fault = log_fault.NotLower old.lower;
-    names = refl;
+  ended : (new : Progress) (end : CheckEnd) (fault : LogFault) → named end ≡ Some fault
+      → of_descent (descent_left old.lower []) ≡ Fails fault
+      → Stands parts goal Finished log new (Some end)
+  ended new end fault names is = record {
+    fault = fault;
+    names = names;
     fails = λ whole on.
-        concluded parts goal whole old.state.hypotheses (ap (kept parts goal) on ∙ known.0)
-        old.pairs known.1.0
-        (Fails (log_fault.NotLower old.lower))
-        (ap (λ (l : Log). of_descent (descent_from l.table 0 old.pairs l.pairs)) on ∙
-        ap of_descent (descent_now ∙ by_pair (slice_get old.pairs old.lower) refl));
-  } where
-    by_pair : (o : Option Pair) → slice_get old.pairs old.lower ≡ o
-        → descent_from log.table old.lower (drop old.lower old.pairs) [] ≡ NotLower old.lower
-    by_pair None none =
-        let no = from_end old.pairs old.lower none in absurd (omega (arith, no, left))
-    by_pair (Some pair) some =
-        ap (λ ps. descent_from log.table old.lower ps []) (from_place old.pairs old.lower pair some)
+        pairs_decide parts goal whole old (ap (kept parts goal) on ∙ known.0) known.1.0
+        (Fails fault)
+        (ap (λ (l : Log). of_descent (descent_of l.table l.pairs)) on
+        ∙ ap of_descent descent_now ∙ is);
+  }
 
-  all_stand : length old.pairs ≤ old.lower → Stands parts goal Finished log old None
-  all_stand none = record {
+  left_stands : (new : Progress) → old.lower < length old.listing.pairs →
+      Stands parts goal Finished log new (Some (end.NotLower old.lower))
+  left_stands new left =
+      ended new (end.NotLower old.lower) (log_fault.NotLower old.lower) refl
+      (ap of_descent (by_pair (slice_get old.listing.pairs old.lower) refl)) where
+        by_pair : (o : Option Pair) → slice_get old.listing.pairs old.lower ≡ o
+            → descent_left old.lower [] ≡ NotLower old.lower
+        by_pair None none =
+            let no = from_end old.listing.pairs old.lower none in absurd (omega (arith, no, left))
+        by_pair (Some pair) some =
+            ap (λ ps. descent_in log.table old.listing.whole old.lower ps [])
+            (from_place old.listing.pairs old.lower pair some)
+
+  -- behind the last pair
+  at_last : length old.listing.pairs ≤ old.lower → (whole : Bool) → old.listing.whole ≡ whole
+      → descent_left old.lower [] ≡ descent_in log.table whole old.lower [] []
+  at_last none whole is =
+      ap (λ ps. descent_in log.table old.listing.whole old.lower ps [])
+      (drop_of_length-le old.listing.pairs none)
+      ∙ ap (λ w. descent_in log.table w old.lower [] []) is
+
+  beyond_stands : (new : Progress) → length old.listing.pairs ≤ old.lower
+      → old.listing.whole ≡ false
+      → Stands parts goal Finished log new (Some (end.Large (limit.Pair old.lower)))
+  beyond_stands new none not_whole =
+      ended new (end.Large (limit.Pair old.lower)) (PassesLimits (AtPair old.lower)) refl
+      (ap of_descent (at_last none false not_whole))
+
+  all_stand : length old.listing.pairs ≤ old.lower → old.listing.whole ≡ true →
+      Stands parts goal Finished log old None
+  all_stand none whole = record {
     steps = holds.steps;
     table = holds.table;
-    known = concluded parts goal log old.state.hypotheses known.0 old.pairs known.1.0 Accepted
-        (ap of_descent (descent_now ∙ ap (λ ps. descent_from log.table old.lower ps [])
-        (drop_of_length-le old.pairs none)));
+    known = pairs_decide parts goal log old known.0 known.1.0 Accepted
+        (ap of_descent (descent_now ∙ at_last none true whole));
   }
 
 pub pair_judged : (parts : RuleParts) (place : LineState) (cert : PairCert) (old : Progress)
     (lower : ℕ)
     (failure : Option CheckEnd)
     → AsksRanks parts place old.table None → lower ≡ old.lower + 1
-    → IsOutcome failure (once_lower (lowered old.table old.lower old.pairs cert Descends) passed)
+    → IsOutcome failure (once_lower (lowered old.table old.lower old.listing cert Descends) passed)
     → (goal : Equation) (log : Log) (symbol : ℕ) (behind : LineState) → Holds parts goal place log
     old
     → after place (line.Pair cert, symbol) ≡ Some behind
@@ -630,32 +681,54 @@ pair_judged parts place cert old lower failure asks is ends goal log symbol behi
     (subst (λ k. Stands parts goal InPairs (pushed (line.Pair cert) log) (record old { lower = k })
     failure) (sym is)
     (pair_stands parts goal place log old holds known cert failure
-    (subst (λ table. IsOutcome failure (once_lower (lowered table old.lower old.pairs cert Descends)
-    passed)) holds.table ends)))
+    (subst (λ table. IsOutcome failure (once_lower (lowered table old.lower old.listing cert
+    Descends) passed)) holds.table ends)))
+
+-- what the end makes of what was kept, if it does so where the pairs decide
+end_by : (parts : RuleParts) (place : LineState) (old new : Progress)
+    (failure : Option CheckEnd) → AsksRanks parts place old.table None
+    → ((goal : Equation) (log : Log) → Holds parts goal place log old →
+    IsKnown parts goal InPairs log old → Stands parts goal Finished log new failure)
+    → (goal : Equation) (log : Log) (symbol : ℕ) (behind : LineState) → Holds parts goal place log
+    old
+    → after place (line.End, symbol) ≡ Some behind →
+    Stands parts goal behind (pushed line.End log) new failure
+end_by parts place old new failure asks stands goal log symbol behind holds e =
+    let comes = end_comes place symbol behind e in
+    subst (λ b. Stands parts goal b log new failure) comes.1
+    (stands goal log holds (ranked parts goal place log old comes.0 asks holds))
 
 pub end_left : (parts : RuleParts) (place : LineState) (old new : Progress) →
-    AsksRanks parts place old.table None → old.lower < length old.pairs
+    AsksRanks parts place old.table None → old.lower < length old.listing.pairs
     → (goal : Equation) (log : Log) (symbol : ℕ) (behind : LineState) → Holds parts goal place log
     old
     → after place (line.End, symbol) ≡ Some behind →
     Stands parts goal behind (pushed line.End log) new (Some (end.NotLower old.lower))
-end_left parts place old new asks left goal log symbol behind holds e =
-    let comes = end_comes place symbol behind e in
-    let known = ranked parts goal place log old comes.0 asks holds in
-    subst (λ b. Stands parts goal b log new (Some (end.NotLower old.lower))) comes.1
-    (left_stands parts goal place log old holds known new left)
+end_left parts place old new asks left =
+    end_by parts place old new (Some (end.NotLower old.lower)) asks
+    (λ goal log holds known. left_stands parts goal place log old holds known new left)
+
+pub end_beyond : (parts : RuleParts) (place : LineState) (old new : Progress) →
+    AsksRanks parts place old.table None → length old.listing.pairs ≤ old.lower
+    → old.listing.whole ≡ false
+    → (goal : Equation) (log : Log) (symbol : ℕ) (behind : LineState) → Holds parts goal place log
+    old
+    → after place (line.End, symbol) ≡ Some behind →
+    Stands parts goal behind (pushed line.End log) new (Some (end.Large (limit.Pair old.lower)))
+end_beyond parts place old new asks none not_whole =
+    end_by parts place old new (Some (end.Large (limit.Pair old.lower))) asks
+    (λ goal log holds known. beyond_stands parts goal place log old holds known new none not_whole)
 
 pub end_judged : (parts : RuleParts) (place : LineState) (old : Progress) →
-    AsksRanks parts place old.table None → length old.pairs ≤ old.lower
+    AsksRanks parts place old.table None → length old.listing.pairs ≤ old.lower
+    → old.listing.whole ≡ true
     → (goal : Equation) (log : Log) (symbol : ℕ) (behind : LineState) → Holds parts goal place log
     old
     → after place (line.End, symbol) ≡ Some behind →
     Stands parts goal behind (pushed line.End log) old None
-end_judged parts place old asks none goal log symbol behind holds e =
-    let comes = end_comes place symbol behind e in
-    let known = ranked parts goal place log old comes.0 asks holds in
-    subst (λ b. Stands parts goal b log old None) comes.1
-    (all_stand parts goal place log old holds known none)
+end_judged parts place old asks none whole =
+    end_by parts place old old None asks
+    (λ goal log holds known. all_stand parts goal place log old holds known none whole)
 
 -- ---- after a failure
 

@@ -9,7 +9,7 @@ use Rattle.rx_pairs.specs.declared.table.RankTable.{RankTable}
 use Rattle.rx_proofs.specs.Example.{alike, example, hypothesis, table}
 use Rattle.rx_proofs.specs.Runs.{IsProof, NoStep, OneMore, Run, finished, start}
 use Rattle.rx_proofs.proofs.Example.{example_proof}
-use Rattle.rx_log.specs.Acceptance.{Checked, Concludes, Accepted, IsAccepted, OnPairs, ◌>>=◌, after_step, after_steps, kept, kept_by, of_descent, once_covered, once_ranked}
+use Rattle.rx_log.specs.Acceptance.{Checked, IsAccepted, ◌>>=◌, after_step, after_steps, concluded, kept, kept_by, of_descent, once_covered, once_ranked}
 use Rattle.rx_log.specs.declared.log.Log.{Log}
 
 -- the steps of a run
@@ -38,19 +38,10 @@ module _ (parts : RuleParts) (goal : Equation) (hypotheses : List Rule) (ranks :
       ∙ ap (λ (check : Checked State). check >>= kept_by parts ranks) is
       ∙ ap (λ bad. once_ranked bad (Ok hypotheses)) proof.lawful
 
-  lower_with : (steps : List Step)
-      → OnPairs (parts.rules ++ hypotheses) (log_with steps).table (log_with steps).pairs Accepted
-  lower_with steps = record {
-    pairs = proof.pairs;
-    all_pairs = proof.all_pairs;
-    is = ap of_descent proof.descends;
-  }
-
   accepted_with : (steps : List Step) → kept parts goal (log_with steps) ≡ Ok hypotheses
       → IsAccepted parts goal (log_with steps)
   accepted_with steps keeps =
-      subst (λ check. Concludes parts (log_with steps) check Accepted) (sym keeps)
-      (lower_with steps)
+      ap (concluded parts (log_with steps)) keeps ∙ ap of_descent proof.descends
 
   pub proof_has_log : (log : Log) × (kept parts goal log ≡ Ok hypotheses) × (log.table ≡ ranks) ×
       IsAccepted parts goal log

@@ -1,10 +1,11 @@
 -- An accepted log is a proof: what its checks show, one by one.
-use Rattle.std.proofs.Common.{◌≡◌, ℕ, Option, Some, None, Ok, Err, List, [], ◌∷◌, ◌++◌, refl, sym, subst, ℤ, All}
+use Rattle.std.proofs.Common.{◌≡◌, ℕ, Option, Some, None, Ok, Err, List, [], ◌∷◌, ◌++◌, refl, sym, ap, subst, ℤ, All}
 use Rattle.std.proofs.lemmas.List.Elements.{All-nil}
 use Rattle.rx_row.specs.Holds.{AllHold}
 use Rattle.rx_rewriting.specs.Premises.{HaveConvertibleNormalForms}
 use Rattle.rx_rewriting.specs.Steps.{IsSingleValued, Reaches}
 use Rattle.rx_rewriting.proofs.UniqueResults.{convertible_results_equal}
+use Rattle.rx_term.specs.Domains.{are_domains}
 use Rattle.rx_term.specs.Meaning.{Instance, ground_at}
 use Rattle.rx_term.specs.WellMade.{IsWellMade}
 use Rattle.rx_term.proofs.RuleLaws.{results_rest}
@@ -12,14 +13,15 @@ use Rattle.rx_term.specs.declared.rule.Equation.{Equation}
 use Rattle.rx_term.specs.declared.rule.Rule.{Rule}
 use Rattle.rx_term.specs.declared.rule_set.RuleParts.{RuleParts}
 use Rattle.rx_cover.specs.Covering.{Covering, Covers, Fails, PassesLimits, covering}
-use Rattle.rx_pairs.specs.Lowering.{Descends, Descent, NotLower, descent_from}
+use Rattle.rx_pairs.specs.Inside.{descends_in}
+use Rattle.rx_pairs.specs.Lowering.{Descends, Descent, NotLower}
 use Rattle.rx_pairs.specs.Lowering as lowering
 use Rattle.rx_pairs.specs.Pairs.{HasRoot}
 use Rattle.rx_pairs.specs.Ranks.{bad_rank}
-use Rattle.rx_proofs.specs.Goals.{Inside, IsFitting}
-use Rattle.rx_proofs.specs.Runs.{IsProof, Run, finished, start}
+use Rattle.rx_proofs.specs.Goals.{Fitting, IsFitting}
+use Rattle.rx_proofs.specs.Runs.{IsProof, NoDomains, Run, finished, start}
 use Rattle.rx_proofs.proofs.Runs.{proof_ends_alike}
-use Rattle.rx_log.specs.Acceptance.{Accepted, Checked, IsAccepted, OnPairs, ◌>>=◌, after_steps, kept, of_descent, once_covered, once_finished, once_ranked}
+use Rattle.rx_log.specs.Acceptance.{Accepted, Checked, IsAccepted, ◌>>=◌, after_steps, kept, of_descent, once_covered, once_finished, once_ranked}
 use Rattle.rx_log.specs.Acceptance as acceptance
 use Rattle.rx_log.specs.declared.log.Log.{Log}
 use Rattle.rx_check.specs.Results.{EndEqual}
@@ -92,28 +94,29 @@ descends_back (NotLower i) e = absurd cc
 descends_back (lowering.PassesLimits i) e = absurd cc
 
 module _ (parts : RuleParts) (goal : Equation) (log : Log) (made : IsWellMade parts)
-    (fits : IsFitting parts goal) where
+    (plain : parts.domains ≡ []) (fits : IsFitting parts goal) where
   -- the proof, with what the checks came to
   proof_of : (hypotheses : List Rule) → kept parts goal log ≡ Ok hypotheses
-      → OnPairs (parts.rules ++ hypotheses) log.table log.pairs Accepted →
+      → of_descent (descends_in parts (parts.rules ++ hypotheses) log.table log.pairs) ≡ Accepted →
       IsProof parts goal hypotheses log.table
   proof_of hypotheses e verdict =
       let checks = kept_checks parts goal log hypotheses e in
       record {
         made = made;
+        domains = ap (are_domains parts.symbols) plain;
         fits = fits;
+        kept = NoDomains plain;
         trees = log.covers;
         covers = checks.covers;
         run = checks.run;
         lawful = checks.lawful;
-        pairs = verdict.pairs;
-        all_pairs = verdict.all_pairs;
         certs = log.pairs;
-        descends = descends_back (descent_from log.table 0 verdict.pairs log.pairs) verdict.is;
+        descends = descends_back (descends_in parts (parts.rules ++ hypotheses) log.table log.pairs)
+            verdict;
       }
 
   by_kept : (check : Checked (List Rule)) → kept parts goal log ≡ check
-      → acceptance.Concludes parts log check Accepted
+      → acceptance.concluded parts log check ≡ Accepted
       → (hypotheses : List Rule) × (kept parts goal log ≡ Ok hypotheses) ×
       IsProof parts goal hypotheses log.table
   by_kept (Ok hypotheses) e verdict = (hypotheses, e, proof_of hypotheses e verdict)
@@ -125,7 +128,7 @@ module _ (parts : RuleParts) (goal : Equation) (log : Log) (made : IsWellMade pa
   accepted_proof accepted = by_kept (kept parts goal log) refl accepted
 
   pub accepted_ends_alike : IsAccepted parts goal log → (a : ℕ → ℤ) → AllHold a goal.rows
-      → HaveConvertibleNormalForms (Inside parts) (Instance parts.rules) (ground_at a goal.left)
+      → HaveConvertibleNormalForms (Fitting parts) (Instance parts.rules) (ground_at a goal.left)
       (ground_at a goal.right)
   accepted_ends_alike accepted a holds =
       let (hypotheses, _, proof) = accepted_proof accepted in

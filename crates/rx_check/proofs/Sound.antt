@@ -1,17 +1,11 @@
--- What an answer means: the pairs decide after all other checks, and what the lines of a log give is
--- said of the log.
-use Rattle.std.proofs.Common.{◌≡◌, ℕ, ℤ, sym, subst, List, ◌++◌, Result, Ok, Err, OnOk}
+-- What an answer means: what the lines of a log give is said of the log.
+use Rattle.std.proofs.Common.{ℕ, ℤ, subst, List, Result, Ok, Err, OnOk}
 use Rattle.rx_row.specs.Holds.{AllHold}
 use Rattle.rx_rewriting.specs.Premises.{HaveConvertibleNormalForms}
 use Rattle.rx_term.specs.Meaning.{Instance, ground_at}
 use Rattle.rx_term.specs.declared.rule.Equation.{Equation}
-use Rattle.rx_term.specs.declared.rule.Rule.{Rule}
 use Rattle.rx_term.specs.declared.rule_set.RuleParts.{RuleParts}
-use Rattle.rx_pairs.specs.Lowering.{descent_from}
-use Rattle.rx_pairs.specs.Pairs.{AreAllPairs}
-use Rattle.rx_pairs.specs.declared.pair.Pair.{Pair}
-use Rattle.rx_log.specs.Acceptance.{Concludes, HasVerdict, Verdict, kept, of_descent}
-use Rattle.rx_proofs.specs.Goals.{Inside, IsFitting}
+use Rattle.rx_proofs.specs.Goals.{Fitting, IsFitting}
 use Rattle.rx_log.specs.declared.line.Line.{Line}
 use Rattle.rx_log.specs.declared.log.Log.{Log}
 use Rattle.rx_check.specs.Answers.{Answers}
@@ -20,20 +14,10 @@ use Rattle.rx_check.specs.Whole.{Replays}
 use Rattle.rx_check.specs.declared.check_end.CheckEnd.{CheckEnd}
 use Rattle.rx_check.specs.declared.replayer.Replayer.{Replayer}
 
-module _ (parts : RuleParts) (goal : Equation) (log : Log) (hypotheses : List Rule)
-    (keeps : kept parts goal log ≡ Ok hypotheses) (pairs : List Pair)
-    (all : AreAllPairs (parts.rules ++ hypotheses) pairs) where
-  -- where nothing else fails, their verdict is that on the log
-  pub concluded : (verdict : Verdict) → of_descent (descent_from log.table 0 pairs log.pairs) ≡
-      verdict → HasVerdict parts goal log verdict
-  concluded verdict is =
-      subst (λ check. Concludes parts log check verdict) (sym keeps)
-      (record { pairs = pairs; all_pairs = all; is = is })
-
 -- both sides of the goal reach results that are convertible by the rules alone
 abbrev pub IsSound : RuleParts → Equation → Type 0
 IsSound parts goal = (a : ℕ → ℤ) → AllHold a goal.rows
-    → HaveConvertibleNormalForms (Inside parts) (Instance parts.rules) (ground_at a goal.left)
+    → HaveConvertibleNormalForms (Fitting parts) (Instance parts.rules) (ground_at a goal.left)
     (ground_at a goal.right)
 
 module _ (replayer : Replayer) (parts : RuleParts) (goal : Equation) (log : Log)

@@ -1,13 +1,14 @@
 -- A log that is replayed line by line: what is kept between two lines, and what that says of it.
-use Rattle.std.specs.Prelude.{◌≡◌, ℕ, Option, Some, None, Result, Ok, Err}
+use Rattle.std.specs.Prelude.{◌≡◌, ℕ, Bool, true, false, Option, Some, None, Result, Ok, Err}
 use Rattle.std.specs.Prelude.{All, List, [], ◌∷◌, ◌++◌, drop}
 use Rattle.rx_cover.specs.Covering.{Covers, covering, covering_from}
 use Rattle.rx_cover.specs.declared.cover_tree.CoverTree.{CoverTree}
 use Rattle.rx_inference.specs.declared.step.Step.{Step}
-use Rattle.rx_cert.specs.Findings.{Said, No}
-use Rattle.rx_pairs.specs.Lowering.{Descent, Descends, descent_from, lower_finding}
+use Rattle.rx_cert.specs.Findings.{Said, No, Beyond}
+use Rattle.rx_pairs.specs.Inside.{descent_in, listing}
+use Rattle.rx_pairs.specs.Lowering.{Descent, Descends, lower_finding}
 use Rattle.rx_pairs.specs.Lowering as lowering
-use Rattle.rx_pairs.specs.Pairs.{AreAllPairs, HasRoot}
+use Rattle.rx_pairs.specs.Pairs.{HasRoot}
 use Rattle.rx_pairs.specs.declared.pair.Pair.{Pair}
 use Rattle.rx_pairs.specs.declared.pair_cert.PairCert.{PairCert}
 use Rattle.rx_pairs.specs.declared.table.RankTable.{RankTable}
@@ -111,14 +112,15 @@ StepsSoFar parts goal log progress =
 abbrev pub PairsSoFar : Log → Progress → Type 0
 PairsSoFar log progress =
     (more : List PairCert) →
-    descent_from log.table 0 progress.pairs (log.pairs ++ more)
-    ≡ descent_from log.table progress.lower (drop progress.lower progress.pairs) more
+    descent_in log.table progress.listing.whole 0 progress.listing.pairs (log.pairs ++ more)
+    ≡ descent_in log.table progress.listing.whole progress.lower
+    (drop progress.lower progress.listing.pairs) more
 
--- nothing is left to show, and the kept pairs are all that have to be lower
+-- nothing is left to show, and the kept pairs are those that have to be lower
 pub record IsShown (parts : RuleParts) (log : Log) (progress : Progress) : Type 0 where
   pub covers : covering parts log.covers ≡ Covers
   pub goals : progress.state.goals ≡ []
-  pub pairs : AreAllPairs (parts.rules ++ progress.state.hypotheses) progress.pairs
+  pub pairs : listing parts (parts.rules ++ progress.state.hypotheses) ≡ progress.listing
 
 -- what is known at each place
 abbrev pub IsKnown : RuleParts → Equation → LineState → Log → Progress → Type 0
@@ -130,7 +132,7 @@ IsKnown parts goal (InRanks columns next) log progress =
     IsShown parts log progress × ((log.pairs ≡ []) × (progress.lower ≡ 0))
 IsKnown parts goal InPairs log progress =
     (kept parts goal log ≡ Ok progress.state.hypotheses)
-    × (AreAllPairs (parts.rules ++ progress.state.hypotheses) progress.pairs
+    × ((listing parts (parts.rules ++ progress.state.hypotheses) ≡ progress.listing)
     × PairsSoFar log progress)
 IsKnown parts goal Finished log progress = IsAccepted parts goal log
 
@@ -171,10 +173,12 @@ once_lower Descends next = next
 once_lower (lowering.NotLower i) next = Err (NotLower i)
 once_lower (lowering.PassesLimits i) next = Err (PassesLimits (AtPair i))
 
--- no certificate shows a pair that isn't there
-abbrev pub one_lower : RankTable → Option Pair → PairCert → Said
-one_lower table None cert = No
-one_lower table (Some pair) cert = lower_finding pair table cert
+-- what a certificate finds of a pair, the pairs being whole or not: behind the last one, none is
+-- shown where they are whole, and else the limits are passed
+abbrev pub one_lower : Bool → RankTable → Option Pair → PairCert → Said
+one_lower false table None cert = Beyond
+one_lower true table None cert = No
+one_lower whole table (Some pair) cert = lower_finding pair table cert
 
 -- with this failure, if any, the line makes this of what was kept at the place
 abbrev pub Judged : RuleParts → LineState → Line → Progress → Progress → Option CheckEnd → Type 0

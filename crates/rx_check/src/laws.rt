@@ -5,7 +5,7 @@ ghost use Rattle.rx_check.specs.LineByLine.{log_of};
 ghost use Rattle.rx_check.specs.Results.{EndEqual};
 ghost use Rattle.rx_check.specs.declared.check_end.CheckEnd.{CheckEnd};
 ghost use Rattle.rx_proofs.specs.Example.{alike, example, hypothesis};
-ghost use Rattle.rx_proofs.specs.Goals.{Inside, IsFitting};
+ghost use Rattle.rx_proofs.specs.Goals.{Fitting, IsFitting};
 ghost use Rattle.rx_proofs.specs.Runs.{IsProof};
 ghost use Rattle.rx_log.specs.Acceptance.{HasVerdict, IsAccepted, Verdict, kept};
 ghost use Rattle.rx_log.specs.Lines.{log_lines};
@@ -21,19 +21,18 @@ ghost use Rattle.rx_term.specs.declared.rule.Equation.{Equation};
 ghost use Rattle.rx_term.specs.declared.rule.Rule.{Rule};
 ghost use Rattle.rx_term.specs.declared.rule_set.RuleParts.{RuleParts};
 
-/// Over a well made rule set each log has a verdict, and no other.
+/// Each log has a verdict, and no other.
 pub fn each_log_has_one_verdict()
-    ensures { (parts : RuleParts) (goal : Equation) (log : Log) → IsWellMade parts →
+    ensures { (parts : RuleParts) (goal : Equation) (log : Log) →
         (verdict : Verdict) × HasVerdict parts goal log verdict
         × ((other : Verdict) → HasVerdict parts goal log other → other ≡ verdict) }
 {}
 
-/// Over a well made rule set, two answers on one log, by `replay` or line by line, give the same
-/// verdict, if each gives one.
+/// Two answers on one log, by `replay` or line by line, give the same verdict, if each gives one.
 pub fn answers_agree()
     ensures { (parts : RuleParts) (goal : Equation) (log : Log) →
         (one two : Result (Unit {0}) CheckEnd) →
-        IsWellMade parts → Answers one parts goal log → Answers two parts goal log →
+        Answers one parts goal log → Answers two parts goal log →
         (first second : Verdict) → verdict_known one ≡ Some first → verdict_known two ≡ Some second →
         first ≡ second }
 {}
@@ -43,21 +42,23 @@ pub fn lines_give_their_log()
     ensures { (log : Log) → log_of (log_lines log) ≡ log }
 {}
 
-/// For a well made rule set and a goal whose sides fit it, an accepted log is a proof, with the
-/// hypotheses that its steps keep (`proof`). So at each assignment that meets the goal's rows both
-/// sides reach results, and these are convertible by the rules alone (`alike`); where the rules are
-/// single-valued, as those of a program are, both sides reach the same one (`equal`).
+/// For a well made rule set without domains and a goal whose sides fit it, an accepted log is a
+/// proof, with the hypotheses that its steps keep (`proof`). So at each assignment that meets the
+/// goal's rows both sides reach results, and these are convertible by the rules alone (`alike`);
+/// where the rules are single-valued, as those of a program are, both sides reach the same one
+/// (`equal`).
 pub fn accepted_logs_are_proofs()
     ensures proof { (parts : RuleParts) (goal : Equation) (log : Log) → IsWellMade parts →
-        IsFitting parts goal → IsAccepted parts goal log →
+        parts.domains ≡ [] → IsFitting parts goal → IsAccepted parts goal log →
         (hypotheses : List Rule) × (kept parts goal log ≡ Ok hypotheses)
         × IsProof parts goal hypotheses log.table }
     ensures alike { (parts : RuleParts) (goal : Equation) (log : Log) → IsWellMade parts →
-        IsFitting parts goal → IsAccepted parts goal log → (a : ℕ → ℤ) → AllHold a goal.rows →
-        HaveConvertibleNormalForms (Inside parts) (Instance parts.rules)
+        parts.domains ≡ [] → IsFitting parts goal → IsAccepted parts goal log →
+        (a : ℕ → ℤ) → AllHold a goal.rows →
+        HaveConvertibleNormalForms (Fitting parts) (Instance parts.rules)
         (ground_at a goal.left) (ground_at a goal.right) }
     ensures equal { (parts : RuleParts) (goal : Equation) (log : Log) → IsWellMade parts →
-        IsFitting parts goal → IsAccepted parts goal log →
+        parts.domains ≡ [] → IsFitting parts goal → IsAccepted parts goal log →
         IsSingleValued (Instance parts.rules) → (a : ℕ → ℤ) → AllHold a goal.rows →
         EndEqual (Instance parts.rules) (ground_at a goal.left) (ground_at a goal.right) }
 {}

@@ -1,24 +1,24 @@
 //! Single checks, each with the failure that it comes to.
-ghost use Rattle.std.specs.Prelude.{◌≡◌, ◌+◌, ◌++◌, ℕ, None, Err, [], drop, slice_get, All};
+ghost use Rattle.std.specs.Prelude.{◌≡◌, ◌+◌, ℕ, Some, None, Err, [], drop, slice_get, if◌then◌else◌};
 ghost use Rattle.std.specs.Prelude.{IfOk, OnErr};
-ghost use Rattle.rx_check.specs.Answers.{Finds, of_step_end, of_step_outcome};
+ghost use Rattle.rx_check.specs.Answers.{Finds, named, of_step_end, of_step_outcome};
 ghost use Rattle.rx_check.specs.LineByLine.{IsFailureOf, IsOutcome, once_lower, one_lower};
 ghost use Rattle.rx_check.specs.LineByLine.{passed};
 ghost use Rattle.rx_cover.specs.Covering.{Covers, covering_from, goes_on, one_covered};
+ghost use Rattle.rx_log.specs.Acceptance as log_fault;
 ghost use Rattle.rx_log.specs.Acceptance.{once_covered, once_ranked};
 ghost use Rattle.rx_pairs.specs.Lowering.{Descends};
 ghost use Rattle.rx_pairs.specs.Lowering as lowering;
-ghost use Rattle.rx_pairs.specs.Pairs.{AreAllPairs, HasRoot};
 ghost use Rattle.rx_pairs.specs.Ranks.{bad_rank};
 
 use crate::check_end::{CheckEnd, LimitAt};
 use rx_cover::{CoverTree, cover_one};
 use rx_log::LineState;
-use rx_pairs::{Pair, PairCert, RankTable, all_pairs, bad_ranks, is_lower};
-use rx_plain::{Items, NoMemory};
+use rx_pairs::{Listing, PairCert, RankTable, bad_ranks, is_lower, listed_pairs};
+use rx_plain::NoMemory;
 use rx_poly::PolyEnd;
 use rx_steps::StepEnd;
-use rx_term::{Rule, RuleSet};
+use rx_term::RuleSet;
 use std::alloc::Global;
 
 /// The failure that the outcome of a check is, if it is one.
@@ -101,21 +101,6 @@ pub(crate) fn step_outcome(number: usize, outcome: Result<(), StepEnd>) -> Resul
     }
 }
 
-/// The pairs of the rules, and then those of the hypotheses.
-pub(crate) fn made_pairs(
-    alloc: Global,
-    rules: &RuleSet,
-    hypotheses: &[Rule],
-) -> Result<Items<Pair>, NoMemory>
-    requires { All HasRoot hypotheses.now }
-    ensures { IfOk result (λ pairs. AreAllPairs (rules.now.rules ++ hypotheses.now) pairs) }
-{
-    // That the rules are well made is what gives them pairs.
-    let _parts = rules.parts();
-    let pairs = all_pairs(alloc, rules.rules(), hypotheses)?;
-    Ok(Items::from_vec(pairs))
-}
-
 /// The first symbol without a lawful rank, as a failure, where the place is after some ranks.
 pub(crate) fn bad_rank_at(rules: &RuleSet, place: LineState, table: &RankTable) -> Option<CheckEnd>
     ensures ranks { (columns next : ℕ) → place ≡ LineState.InRanks columns next →
@@ -131,19 +116,34 @@ pub(crate) fn bad_rank_at(rules: &RuleSet, place: LineState, table: &RankTable) 
     }
 }
 
+/// What a certificate comes to behind the last pair that is listed.
+fn behind_pairs(whole: bool, number: usize) -> CheckEnd
+    ensures { named result ≡ Some (if whole then log_fault.NotLower number
+        else log_fault.PassesLimits (log_fault.AtPair number)) }
+{
+    if whole {
+        CheckEnd::NotLower { pair: number }
+    } else {
+        CheckEnd::Large {
+            place: LimitAt::Pair(number),
+        }
+    }
+}
+
 /// Whether the certificate shows that the pair with that number is lower.
 pub(crate) fn check_pair(
     alloc: Global,
-    pairs: &[Pair],
+    listing: &Listing,
     number: usize,
     table: &RankTable,
     cert: &PairCert,
 ) -> Result<(), CheckEnd>
     ensures { Finds (λ done. done) result (once_lower (lowering.goes_on number
-        (one_lower table.now (slice_get pairs.now number) cert.now) Descends) passed) }
+        (one_lower listing.now.whole table.now (slice_get listing.now.pairs number) cert.now)
+        Descends) passed) }
 {
-    let Some(pair) = pairs.get(number) else {
-        return Err(CheckEnd::NotLower { pair: number });
+    let Some(pair) = listing.pairs.as_slice().get(number) else {
+        return Err(behind_pairs(listing.whole, number));
     };
     match is_lower(alloc, pair, table, cert) {
         Ok(true) => Ok(()),

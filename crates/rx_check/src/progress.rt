@@ -6,14 +6,13 @@ ghost use Rattle.rx_log.specs.Acceptance.{after_step};
 ghost use Rattle.rx_pairs.specs.Pairs.{HasRoot};
 ghost use Rattle.rx_term.specs.declared.rule_set.RuleParts.{RuleParts};
 
-use crate::check_end::CheckEnd;
+use crate::check_end::{CheckEnd, LimitAt};
 use crate::outcomes::{
-    bad_rank_at, check_cover, check_pair, count_after, failure_of, made_pairs, missing_cover,
-    step_outcome,
+    bad_rank_at, check_cover, check_pair, count_after, failure_of, missing_cover, step_outcome,
 };
 use rx_cover::CoverTree;
 use rx_log::{Line, LineState};
-use rx_pairs::{Pair, PairCert, RankTable};
+use rx_pairs::{Listing, PairCert, RankTable, listed_pairs};
 use rx_plain::{Items, NoMemory};
 use rx_poly::Poly;
 use rx_steps::{State, Step, apply_owned};
@@ -30,7 +29,7 @@ pub struct Progress {
     /// The ranks so far.
     pub table: RankTable,
     /// The pairs that have to be lower, from the line on that begins the ranks.
-    pub pairs: Items<Pair>,
+    pub listing: Listing,
     /// How many of them are.
     pub lower: usize,
 }
@@ -112,7 +111,7 @@ impl Progress {
         if goals > 0 {
             return Ok(Some(CheckEnd::Unfinished { goals }));
         }
-        self.pairs = made_pairs(alloc, rules, self.state.hypotheses())?;
+        self.listing = listed_pairs(alloc, rules, self.state.hypotheses())?;
         self.lower = 0;
         self.table.columns = columns;
         Ok(None)
@@ -143,8 +142,8 @@ impl Progress {
             return Ok(Some(end));
         }
         let next = count_after(self.lower)?;
-        let pairs = self.pairs.as_slice();
-        let failure = failure_of(check_pair(alloc, pairs, self.lower, &self.table, cert))?;
+        let outcome = check_pair(alloc, &self.listing, self.lower, &self.table, cert);
+        let failure = failure_of(outcome)?;
         self.lower = next;
         Ok(failure)
     }
@@ -156,8 +155,13 @@ impl Progress {
         if let Some(end) = bad_rank_at(rules, place, &self.table) {
             return Some(end);
         }
-        if self.lower < self.pairs.len() {
+        if self.lower < self.listing.pairs.len() {
             return Some(CheckEnd::NotLower { pair: self.lower });
+        }
+        if !self.listing.whole {
+            return Some(CheckEnd::Large {
+                place: LimitAt::Pair(self.lower),
+            });
         }
         None
     }

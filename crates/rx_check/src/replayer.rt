@@ -5,7 +5,7 @@ ghost use Rattle.rx_check.specs.Answers.{Answers};
 ghost use Rattle.rx_check.specs.LineByLine.{HasRoots, MayLead, Stands, StandsFor, log_of};
 ghost use Rattle.rx_check.specs.LineByLine.{place_after};
 ghost use Rattle.rx_check.specs.Whole.{HasWidths, Replays, front_of};
-ghost use Rattle.rx_proofs.specs.Goals.{Inside, IsFitting};
+ghost use Rattle.rx_proofs.specs.Goals.{Fitting, IsFitting};
 ghost use Rattle.rx_log.specs.Places.{after};
 ghost use Rattle.rx_log.specs.Reading.{pushed};
 ghost use Rattle.rx_log.specs.declared.log.Log.{Log};
@@ -18,7 +18,7 @@ ghost use Rattle.rx_term.specs.declared.rule_set.RuleParts.{RuleParts};
 use crate::check_end::CheckEnd;
 use crate::progress::Progress;
 use rx_log::{Line, LineState, Log};
-use rx_pairs::{RankTable, bad_ranks};
+use rx_pairs::{Listing, RankTable, bad_ranks};
 use rx_plain::{Items, NoMemory};
 use rx_steps::State;
 use rx_term::{Equation, RuleSet};
@@ -53,7 +53,10 @@ impl Replayer {
             state,
             steps: 0,
             table,
-            pairs: Items::new(alloc),
+            listing: Listing {
+                pairs: Items::new(alloc),
+                whole: true,
+            },
             lower: 0,
         };
         Ok(Replayer {
@@ -131,9 +134,10 @@ impl Replayer {
     /// Whether the log is accepted: the answer of `replay` on the log that the lines are. Takes no
     /// memory, and never answers NoMemory.
     ///
-    /// The last line of a log must have come.
+    /// The last line of a log must have come, and the rules must have no domains.
     pub fn finish(self, rules: &RuleSet) -> Result<(), CheckEnd>
-        requires { place_after self ≡ LineState.Finished }
+        requires place { place_after self ≡ LineState.Finished }
+        requires plain { rules.now.domains ≡ [] }
         ensures exact { (goal : Equation) (its : List (Line × ℕ)) →
             StandsFor self rules.now goal its → Answers result rules.now goal (log_of its) }
         ensures decided { (goal : Equation) (its : List (Line × ℕ)) →
@@ -141,7 +145,7 @@ impl Replayer {
         ensures sound { OnOk result ((goal : Equation) (its : List (Line × ℕ)) →
             StandsFor self rules.now goal its → IsFitting rules.now goal →
             (a : ℕ → ℤ) → AllHold a goal.rows →
-            HaveConvertibleNormalForms (Inside rules.now) (Instance rules.now.rules)
+            HaveConvertibleNormalForms (Fitting rules.now) (Instance rules.now.rules)
             (ground_at a goal.left) (ground_at a goal.right)) }
     {
         // That the rules are well made is what makes an accepted log a proof.

@@ -1,9 +1,9 @@
 //! Whether a whole log is accepted: its lines are replayed one after the other.
-ghost use Rattle.std.specs.Prelude.{◌≡◌, ℕ, ℤ, true, length, OnOk};
+ghost use Rattle.std.specs.Prelude.{◌≡◌, [], ℕ, ℤ, true, length, OnOk};
 ghost use Rattle.rx_check.specs.Answers.{Answers};
 ghost use Rattle.rx_check.specs.LineByLine.{HasRoots, IsOpen, IsRanked, place_after};
 ghost use Rattle.rx_check.specs.Whole.{HasWidths, Replays, front_of, with_covers, with_pairs, with_ranks, with_steps};
-ghost use Rattle.rx_proofs.specs.Goals.{Inside};
+ghost use Rattle.rx_proofs.specs.Goals.{Fitting};
 ghost use Rattle.rx_log.specs.Reading.{blank};
 ghost use Rattle.rx_log.specs.declared.log.Log.{Log};
 ghost use Rattle.rx_rewriting.specs.Premises.{HaveConvertibleNormalForms};
@@ -158,14 +158,15 @@ impl Replayer {
 /// refusal. Where the log is accepted, on all integers that meet the goal's rows both sides reach
 /// results, and these are convertible by the rules alone.
 ///
-/// Both sides of the goal must fit the symbols. Trees and certificates are examined by recursion,
-/// as deep as they are.
+/// Both sides of the goal must fit the symbols, and the rules must have no domains. Trees and
+/// certificates are examined by recursion, as deep as they are.
 pub fn replay(alloc: Global, rules: &RuleSet, goal: Equation, log: &Log) -> Result<(), CheckEnd>
     requires left { term_fits rules.now goal.left ≡ true }
     requires right { term_fits rules.now goal.right ≡ true }
+    requires plain { rules.now.domains ≡ [] }
     ensures exact { Answers result rules.now goal log.now }
     ensures sound { OnOk result ((a : ℕ → ℤ) → AllHold a goal.rows →
-        HaveConvertibleNormalForms (Inside rules.now) (Instance rules.now.rules)
+        HaveConvertibleNormalForms (Fitting rules.now) (Instance rules.now.rules)
         (ground_at a goal.left) (ground_at a goal.right)) }
 {
     let mut replayer = Replayer::start(alloc, goal)?;

@@ -11,7 +11,7 @@ use Rattle.rx_find_cover.specs.Coverable.{coverage}
 use Rattle.rx_log.specs.Acceptance.{IsAccepted}
 use Rattle.rx_log.specs.declared.log.Log.{Log}
 use Rattle.rx_moves.specs.Moves.{Move}
-use Rattle.rx_proofs.specs.Goals.{Inside, IsFitting}
+use Rattle.rx_proofs.specs.Goals.{Fitting, IsFitting}
 use Rattle.rx_report.specs.Ends.{status_in, status_of}
 use Rattle.rx_report.specs.Reports.{text_in}
 use Rattle.rx_report.specs.declared.answer.Answer.{Answer}
@@ -44,7 +44,7 @@ use Rattle.rx_cli.proofs.Proved.{searched_proof, status_is}
 
 -- each side is converted to its result, and the results to one another
 holds_at : (parts : RuleParts) (goal : Equation) (a : ℕ → ℤ) →
-    HaveConvertibleNormalForms (Inside parts) (Instance parts.rules) (ground_at a goal.left)
+    HaveConvertibleNormalForms (Fitting parts) (Instance parts.rules) (ground_at a goal.left)
     (ground_at a goal.right) → HoldsAt parts goal a
 holds_at parts goal a ends = record {
   left = ends.left;
@@ -62,6 +62,11 @@ posed_fits source problem (is, none) =
     let (well, fits) = made problem.rules problem.goal none in
     record { left = fits.0; right = fits.1 }
 
+-- and its symbols have no domains
+pub posed_bare : (source : List ℕ) (problem : Problem) → posed source (Goes problem) →
+    problem.rules.domains ≡ []
+posed_bare source problem (is, none) = is.no_domains
+
 -- a rule that isn't well made is named by its number
 pub unmade_posed : (source : List ℕ) (rule : ℕ) → ReadsRules source (Err (NotMade rule)) →
     posed source (Ends (Said.NotMade rule))
@@ -78,7 +83,7 @@ log_shows source problem (is, none) log accepted = record {
   theorem =
       λ a holds. holds_at problem.rules problem.goal a
       (accepted_ends_alike problem.rules problem.goal log
-      (made problem.rules problem.goal none).0
+      (made problem.rules problem.goal none).0 is.no_domains
       (posed_fits source problem (is, none)) accepted a holds);
 }
 

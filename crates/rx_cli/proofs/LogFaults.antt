@@ -1,6 +1,6 @@
 -- The end of a replay says the verdict on the log; a step that passes the limits is never one that
 -- doesn't apply.
-use Rattle.std.proofs.Common.{◌≡◌, ◌≢◌, ℕ, List, [], ◌∷◌, Option, None, Some, Result, Ok, Err, refl, sym, ap, subst}
+use Rattle.std.proofs.Common.{◌≡◌, ◌≢◌, ℕ, List, [], ◌∷◌, ◌++◌, Option, None, Some, Result, Ok, Err, refl, sym, ap, subst}
 use Rattle.std.specs.Prelude.{◌+◌}
 use Rattle.rx_check.specs.Answers.{Answers}
 use Rattle.rx_check.specs.declared.check_end.CheckEnd.{CheckEnd}
@@ -13,10 +13,11 @@ use Rattle.rx_inference.specs.Judging.{StepFault}
 use Rattle.rx_inference.specs.States.{State, applied}
 use Rattle.rx_inference.specs.declared.step.Step.{Step}
 use Rattle.rx_log.specs.Acceptance as acceptance
-use Rattle.rx_log.specs.Acceptance.{Checked, Concludes, HasVerdict, LogFault, OnPairs, after_step, after_steps, kept, kept_by, of_descent, once_covered, once_finished, once_ranked, start, ◌>>=◌}
+use Rattle.rx_log.specs.Acceptance.{Checked, HasVerdict, LogFault, after_step, after_steps, concluded, kept, kept_by, of_descent, once_covered, once_finished, once_ranked, start, ◌>>=◌}
 use Rattle.rx_log.specs.declared.log.Log.{Log}
 use Rattle.rx_pairs.specs.Lowering as lowering
-use Rattle.rx_pairs.specs.Lowering.{Descent, Descends, descent_from}
+use Rattle.rx_pairs.specs.Inside.{descends_in}
+use Rattle.rx_pairs.specs.Lowering.{Descent, Descends}
 use Rattle.rx_pairs.specs.Ranks.{bad_rank}
 use Rattle.rx_steps.specs.declared.step_end.StepEnd.TheVariants as Unmet
 use Rattle.rx_term.specs.declared.rule.Equation.{Equation}
@@ -87,17 +88,17 @@ descent_none Descends k is = cc
 descent_none (lowering.NotLower i) k is = cc
 descent_none (lowering.PassesLimits i) k is = cc
 
-concludes_none : (parts : RuleParts) (log : Log) (check : Checked (List Rule)) → HasNone check →
-    (k : ℕ) → Concludes parts log check (acceptance.Fails (large k)) → ⊥
-concludes_none parts log (Err fault) none k is =
+concluded_none : (parts : RuleParts) (log : Log) (check : Checked (List Rule)) → HasNone check →
+    (k : ℕ) → concluded parts log check ≡ acceptance.Fails (large k) → ⊥
+concluded_none parts log (Err fault) none k is =
     let same : fault ≡ large k = cc in none k (ap Err same)
-concludes_none parts log (Ok hypotheses) none k on =
-    descent_none (descent_from log.table 0 on.pairs log.pairs) k on.is
+concluded_none parts log (Ok hypotheses) none k is =
+    descent_none (descends_in parts (parts.rules ++ hypotheses) log.table log.pairs) k is
 
 never_large : (parts : RuleParts) (goal : Equation) (log : Log) (k : ℕ) →
     HasVerdict parts goal log (acceptance.Fails (large k)) → ⊥
 never_large parts goal log k has =
-    concludes_none parts log (kept parts goal log) (kept_none parts goal log) k has
+    concluded_none parts log (kept parts goal log) (kept_none parts goal log) k has
 
 -- what an end of a replay says
 pub end_said : (problem : Problem) (log : Log) (end : CheckEnd) → end ≢ End.NoMemory →

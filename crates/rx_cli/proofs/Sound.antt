@@ -18,7 +18,7 @@ use Rattle.rx_code.proofs.CodeLawsTranslations.{left_fits, right_fits, translati
 use Rattle.rx_agreement.specs.Agreement.{ReachConvertible}
 use Rattle.rx_agreement.proofs.Preconditions.{means_its_rows}
 use Rattle.rx_agreement.proofs.Translated.{goal_alike}
-use Rattle.rx_proofs.specs.Goals.{Inside, IsFitting}
+use Rattle.rx_proofs.specs.Goals.{Fitting, IsFitting}
 use Rattle.rx_log.specs.declared.log.Log.{Log}
 use Rattle.rx_log.specs.Acceptance.{IsAccepted}
 use Rattle.rx_check.proofs.Proofs.{accepted_ends_alike}
@@ -59,7 +59,7 @@ meets_rows program (Some pre) arguments form (value, outcome, other) =
 
 -- what is reached alike is convertible
 reached : (parts : RuleParts) (s t : Ground) →
-    HaveConvertibleNormalForms (Inside parts) (Instance parts.rules) s t →
+    HaveConvertibleNormalForms (Fitting parts) (Instance parts.rules) s t →
     ReachConvertible parts.rules s t
 reached parts s t ends = record {
   left = ends.left.end;
@@ -107,7 +107,7 @@ module _ (compared : Compared) (problem : Problem) (is_ready : IsReady compared)
       (accepted_ends_alike problem.rules goal log
       (translation_made compared.two.program is_ready.scoped compared.two.first compared.two.second
       problem.rules is.first is.second is.translated)
-      goal_fits (subst (λ g. IsAccepted problem.rules g log) is.goal accepted) a holds))
+      (ap (λ (parts : RuleParts). parts.domains) is.translated.parts_are) goal_fits (subst (λ g. IsAccepted problem.rules g log) is.goal accepted) a holds))
       arguments long (meets_rows compared.two.program compared.precondition arguments
       is_ready.row_form met)
 

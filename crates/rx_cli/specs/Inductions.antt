@@ -5,7 +5,7 @@ use Rattle.c_front.specs.declared.stages.Next.TheVariants.{Ends, Goes}
 use Rattle.rx_command.specs.declared.command.Effort.{Effort}
 use Rattle.rx_find_cover.specs.Coverable.{coverage}
 use Rattle.rx_find_cover.specs.Coverage.{Coverage}
-use Rattle.rx_proofs.specs.Goals.{Inside}
+use Rattle.rx_proofs.specs.Goals.{Fitting}
 use Rattle.rx_report.specs.declared.answer.Answer.{Answer}
 use Rattle.rx_report.specs.declared.answer.Answer.TheVariants.{Line}
 use Rattle.rx_report.specs.declared.verdicts.Verdict.{Verdict}
@@ -27,8 +27,8 @@ use Rattle.rx_cli.specs.Proofs.{OnProblem}
 -- at this assignment both sides reach results by the rules alone, and one side is converted to the
 -- other by the rules alone
 pub record HoldsAt (parts : RuleParts) (goal : Equation) (a : ℕ → ℤ) : Type 0 where
-  pub left : EndsInside (Inside parts) (Instance parts.rules) (ground_at a goal.left)
-  pub right : EndsInside (Inside parts) (Instance parts.rules) (ground_at a goal.right)
+  pub left : EndsInside (Fitting parts) (Instance parts.rules) (ground_at a goal.left)
+  pub right : EndsInside (Fitting parts) (Instance parts.rules) (ground_at a goal.right)
   pub convertible :
       Convertible (Instance parts.rules) (ground_at a goal.left) (ground_at a goal.right)
 

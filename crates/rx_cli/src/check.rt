@@ -1,5 +1,5 @@
 //! The replay of the log of a proof, while it is read.
-ghost use Rattle.std.specs.Prelude.{◌≡◌, ◌≢◌, ◌≤◌, IfOk, MatchOption};
+ghost use Rattle.std.specs.Prelude.{◌≡◌, ◌≢◌, ◌≤◌, [], IfOk, MatchOption};
 ghost use Rattle.rx_io.specs.Outside.{Rose};
 ghost use Rattle.rx_cli.specs.Steps.{ChecksRead, SaysEndOfLog};
 ghost use Rattle.rx_report.specs.Texts.{IsReportableVerdict};
@@ -54,6 +54,7 @@ pub fn on_named<F: Files>(
     files: &mut F,
     name: &str,
 ) -> Result<Verdict, NoMemory>
+    requires no_domains { problem.rules.domains ≡ [] }
     ensures reach { F.reaches files.old files.new }
     ensures later { F.faults files.old ≤ F.faults files.new }
     ensures verdict { IfOk result (ChecksRead (F.held files.old)

@@ -1,5 +1,5 @@
 //! Proofs of the equation of a rule text: the search for one, and the replay of the one in a log.
-ghost use Rattle.std.specs.Prelude.{◌≡◌, ◌≤◌, true, IfOk, IfErr, MatchBool};
+ghost use Rattle.std.specs.Prelude.{◌≡◌, ◌≤◌, [], true, IfOk, IfErr, MatchBool};
 ghost use Rattle.c_front.specs.Stages.{IfGoes};
 ghost use Rattle.rx_cache.specs.CachedSolver.{IsCachedSolver};
 ghost use Rattle.rx_find_cover.specs.Coverable.{coverage, is_coverable};
@@ -33,10 +33,11 @@ use rx_term::RuleSet;
 use std::alloc::Global;
 
 /// The problem that a rule text poses, or why it poses none.
-#[tactic(auto, using(crate::proofs::Induced::posed_fits))]
+#[tactic(auto, using(crate::proofs::Induced::posed_bare, crate::proofs::Induced::posed_fits))]
 fn pose(alloc: Global, source: &[u8]) -> Result<Next<Verdict, Problem>, NoMemory>
     ensures stage { IfOk result (posed source.now) }
     ensures fits { IfOk result (λ next. IfGoes next (λ q. IsFitting q.rules q.goal)) }
+    ensures no_domains { IfOk result (λ next. IfGoes next (λ q. q.rules.domains ≡ [])) }
     ensures line { IfOk result IsReportableNext }
 {
     match read_rules(alloc, source) {
@@ -72,6 +73,7 @@ fn seek_by<S: FnMut(&Constraint) -> Result<Option<Cert>, FmEnd>>(
     solve: &mut S,
 ) -> Result<Answer, NoMemory>
     requires fits { IsFitting problem.now.rules problem.now.goal }
+    requires no_domains { problem.now.rules.domains ≡ [] }
     requires solver { IsSolver S.FnMut solve.old }
     ensures solver { IsSolver S.FnMut solve.new }
     ensures answer { IfOk result (OnCoverage (coverage problem.now.rules) problem.now effort) }
@@ -96,6 +98,7 @@ where
     S: Drop,
     requires known { IsCachedSolver S.FnMut cached }
     requires fits { IsFitting problem.now.rules problem.now.goal }
+    requires no_domains { problem.now.rules.domains ≡ [] }
     ensures answer { IfOk result (OnCoverage (coverage problem.now.rules) problem.now effort) }
     ensures reportable { IfOk result IsReportable }
 {
@@ -111,6 +114,7 @@ where
 /// Searches for a proof that solves a problem whose rules may not be coverable.
 fn on_posed(alloc: Global, problem: &Problem, effort: Effort) -> Result<Answer, NoMemory>
     requires fits { IsFitting problem.now.rules problem.now.goal }
+    requires no_domains { problem.now.rules.domains ≡ [] }
     ensures answer { IfOk result (OnCoverage (coverage problem.now.rules) problem.now effort) }
     ensures reportable { IfOk result IsReportable }
 {

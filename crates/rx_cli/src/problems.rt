@@ -1,5 +1,5 @@
 //! From a text to the problem that two of its functions pose.
-ghost use Rattle.std.specs.Prelude.{◌≡◌, ◌<◌, ◌≤◌, ◌^◌, true, length, IfOk, IfSome};
+ghost use Rattle.std.specs.Prelude.{◌≡◌, ◌<◌, ◌≤◌, ◌^◌, [], true, length, IfOk, IfSome};
 ghost use Rattle.c_front.specs.Front.{count_in};
 ghost use Rattle.c_front.specs.Stages.{IfGoes};
 ghost use Rattle.rx_command.specs.Commands as words;
@@ -113,6 +113,7 @@ fn problem_stage(alloc: Global, compared: &Compared) -> Result<Next<Verdict, Pro
     ensures stage { IfOk result (spec.problem_stage compared.now) }
     ensures fits { IfOk result (λ next. IfGoes next (λ q. IsFitting q.rules q.goal)) }
     ensures coverable { IfOk result (λ next. IfGoes next (λ q. is_coverable q.rules ≡ true)) }
+    ensures no_domains { IfOk result (λ next. IfGoes next (λ q. q.rules.domains ≡ [])) }
     ensures line { IfOk result IsReportableNext }
 {
     let Some(translation) = translation(alloc, compared)? else {
@@ -141,6 +142,7 @@ pub fn ask(
     ensures stage { IfOk result (asked (functions_view functions.now) source.now) }
     ensures fits { IfOk result (λ next. IfGoes next (λ q. IsFitting q.rules q.goal)) }
     ensures coverable { IfOk result (λ next. IfGoes next (λ q. is_coverable q.rules ≡ true)) }
+    ensures no_domains { IfOk result (λ next. IfGoes next (λ q. q.rules.domains ≡ [])) }
     ensures line { IfOk result IsReportableNext }
 {
     match front_stage(alloc, source, functions)? {

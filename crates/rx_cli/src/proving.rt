@@ -88,6 +88,7 @@ fn wider_log<S: FnMut(&Constraint) -> Result<Option<Cert>, FmEnd>>(
     solve: &mut S,
 ) -> Result<Option<Log>, NoMemory>
     requires fits { IsFitting problem.now.rules problem.now.goal }
+    requires no_domains { problem.now.rules.domains ≡ [] }
     requires coverable { is_coverable problem.now.rules ≡ true }
     requires ranked { ranked problem.now.rules [] ≡ Yes }
     requires pairs { AreAllPairs problem.now.rules.rules pairs.now }
@@ -132,6 +133,7 @@ fn search_on<S: FnMut(&Constraint) -> Result<Option<Cert>, FmEnd>>(
     solve: &mut S,
 ) -> Result<Answer, NoMemory>
     requires fits { IsFitting problem.now.rules problem.now.goal }
+    requires no_domains { problem.now.rules.domains ≡ [] }
     requires coverable { is_coverable problem.now.rules ≡ true }
     requires ended { IsEnd effort.depth effort.budget
         (searched problem.now.rules problem.now.goal effort.depth effort.budget) end.now }
@@ -158,6 +160,7 @@ pub(crate) fn search_by<S: FnMut(&Constraint) -> Result<Option<Cert>, FmEnd>>(
     solve: &mut S,
 ) -> Result<Answer, NoMemory>
     requires fits { IsFitting problem.now.rules problem.now.goal }
+    requires no_domains { problem.now.rules.domains ≡ [] }
     requires coverable { is_coverable problem.now.rules ≡ true }
     requires solver { IsSolver S.FnMut solve.old }
     ensures solver { IsSolver S.FnMut solve.new }
@@ -196,6 +199,7 @@ where
     S: Drop,
     requires known { IsCachedSolver S.FnMut cached }
     requires fits { IsFitting problem.now.rules problem.now.goal }
+    requires no_domains { problem.now.rules.domains ≡ [] }
     requires coverable { is_coverable problem.now.rules ≡ true }
     ensures answer { IfOk result (OnProblem problem.now effort) }
     ensures reportable { IfOk result IsReportable }
@@ -215,6 +219,7 @@ pub(crate) const CACHED_ANSWERS: u32 = 4096;
 /// Searches for a proof that solves a problem.
 fn on_problem(alloc: Global, problem: &Problem, effort: Effort) -> Result<Answer, NoMemory>
     requires fits { IsFitting problem.now.rules problem.now.goal }
+    requires no_domains { problem.now.rules.domains ≡ [] }
     requires coverable { is_coverable problem.now.rules ≡ true }
     requires depth { effort.depth ≤ 12 }
     ensures answer { IfOk result (OnProblem problem.now effort) }

@@ -6,11 +6,11 @@ use Rattle.std.proofs.lemmas.Bool.{and_parts, eqb-false, eqb-true, leb-true}
 use Rattle.std.proofs.lemmas.Option.{none-some, same_Some, slice_get_within}
 use Rattle.rx_cert.proofs.FindingLaws.{both_parts}
 use Rattle.rx_cert.specs.Findings.{Said, Yes, No, Beyond, and_also}
-use Rattle.std.proofs.lemmas.List.Elements.{All-nil}
-use Rattle.rx_row.specs.Holds.{AllHold, RowHolds}
+use Rattle.rx_row.specs.Holds.{AllHold}
 use Rattle.rx_row.specs.declared.row.Row.{Row}
 use Rattle.rx_term.proofs.ShapeLaws.{alike}
-use Rattle.rx_term.specs.Covered.{HasRule, IsCovered}
+use Rattle.rx_term.specs.Covered.{HasRule, IsCoveredOver}
+use Rattle.rx_term.specs.Domains.{domain_of, root_domains}
 use Rattle.rx_term.specs.Fitting.{is_alike, is_declared}
 use Rattle.rx_term.specs.Paired.{PointShape, ReturnShape, FailShape}
 use Rattle.rx_term.specs.Shapes.{Shape, Return, Fail, Call, Frame}
@@ -199,17 +199,16 @@ module _ (rules : List Rule) (path : List Row) where
 
 module _ (parts : RuleParts) (lists : List (List CoverTree)) (all : covering parts lists ≡ Covers)
   where
-    -- a declared symbol is covered as what it is declared
+    -- a declared symbol is covered as what it is declared, from its domain on
     declared_covered : (f : Sym) (frame : Bool) (n : ℕ) → is_declared parts.symbols f frame n ≡ true
-        → (trees : List CoverTree) × (in_turn parts.rules [] (redex_shapes f frame parts.fails) trees ≡
-        Yes)
+        → (trees : List CoverTree) × (in_turn parts.rules (domain_of parts f.0)
+        (redex_shapes f frame parts.fails) trees ≡ Yes)
     declared_covered f frame n declared = by_info (slice_get parts.symbols f.0) refl declared where
       by_info : (o : Option SymInfo) → slice_get parts.symbols f.0 ≡ o
           → option_map_or (λ (s : SymInfo). is_alike s.frame frame && nat_eq s.arity n) o false ≡
           true
-          → (trees : List CoverTree) × (in_turn parts.rules [] (redex_shapes f frame parts.fails) trees
-          ≡
-          Yes)
+          → (trees : List CoverTree) × (in_turn parts.rules (domain_of parts f.0)
+          (redex_shapes f frame parts.fails) trees ≡ Yes)
       by_info None there e = cc
       by_info (Some info) there e =
           let number : 0 + f.0 ≡ f.0 = omega arith in
@@ -217,34 +216,36 @@ module _ (parts : RuleParts) (lists : List (List CoverTree)) (all : covering par
           (each_covered parts 0 parts.symbols lists all f.0 info there) in
           let kind = alike info.frame frame (and_parts (is_alike info.frame frame)
           (nat_eq info.arity n) e).0 in
-          let shown = turn_of parts.rules [] (shape_count info.frame parts.fails)
-          (redex_shapes (symbol f.0) info.frame parts.fails) one.0 one.1 in (
+          let shown = turn_of parts.rules (domain_of parts f.0)
+          (shape_count info.frame parts.fails) (redex_shapes (symbol f.0) info.frame parts.fails)
+          one.0 one.1 in (
             one.0,
-            subst (λ b. in_turn parts.rules [] (redex_shapes f b parts.fails) one.0 ≡ Yes) kind
-                shown,
+            subst (λ b. in_turn parts.rules (domain_of parts f.0) (redex_shapes f b parts.fails)
+                one.0 ≡ Yes) kind shown,
           )
 
-    -- all symbols are covered: so is the rule set
-    pub covers_all : IsCovered parts
+    -- all symbols are covered: so is the rule set, at all arguments that meet the domains
+    pub covers_all : IsCoveredOver (root_domains parts) parts
     covers_all _ (PointShape f n declared) a domain =
         let one = declared_covered f false n declared in
-        first_shown parts.rules [] (Call f) [] one.0 one.1 a (All-nil (RowHolds a))
+        first_shown parts.rules (domain_of parts f.0) (Call f) [] one.0 one.1 a domain
     covers_all _ (ReturnShape f n declared) a domain =
         let one = declared_covered f true n declared in
-        first_shown parts.rules [] (Frame f Return) (over_failures f 1 parts.fails) one.0 one.1 a
-        (All-nil (RowHolds a))
+        first_shown parts.rules (domain_of parts f.0) (Frame f Return)
+        (over_failures f 1 parts.fails) one.0 one.1 a domain
     covers_all _ (FailShape f n c declared fits) a domain =
         let one = declared_covered f true n declared in
-        let others = others_shown parts.rules [] (Frame f Return) (over_failures f 1 parts.fails)
-        one.0 one.1 in
+        let others = others_shown parts.rules (domain_of parts f.0) (Frame f Return)
+        (over_failures f 1 parts.fails) one.0 one.1 in
         let both = and_parts (nat_le 1 c) (nat_le c parts.fails) fits in
         let low = leb-true 1 c both.0 in
         let high = leb-true c parts.fails both.1 in
-        failure_shown parts.rules [] f 1 parts.fails c others.0 others.1 low (omega (arith, high)) a
-        (All-nil (RowHolds a))
+        failure_shown parts.rules (domain_of parts f.0) f 1 parts.fails c others.0 others.1 low
+        (omega (arith, high)) a domain
 
 -- the same of an answer
 pub answer_covered : (parts : RuleParts) (lists : List (List CoverTree))
-    (r : Result (Unit {0}) CoverEnd) → Tells (covering parts lists) r → OnOk r (IsCovered parts)
+    (r : Result (Unit {0}) CoverEnd) → Tells (covering parts lists) r
+    → OnOk r (IsCoveredOver (root_domains parts) parts)
 answer_covered parts lists (Ok u) told = covers_all parts lists told
 answer_covered parts lists (Err e) told = tt

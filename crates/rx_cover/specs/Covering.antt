@@ -3,6 +3,7 @@
 use Rattle.std.specs.Prelude.{Bool, true, false, if◌then◌else◌, ℕ, zero, suc, ◌+◌, ◌==◌, Option, Some, None, List, [], ◌∷◌, length, slice_get}
 use Rattle.rx_row.specs.declared.row.Row.{Row}
 use Rattle.rx_cert.specs.Findings.{Said, Yes, No, Beyond, and_also}
+use Rattle.rx_term.specs.Domains.{domain_of}
 use Rattle.rx_term.specs.Shapes.{Shape, Return, Fail, Call, Frame}
 use Rattle.rx_term.specs.declared.rule.Rule.{Rule}
 use Rattle.rx_term.specs.declared.rule_set.RuleParts.{RuleParts}
@@ -45,11 +46,11 @@ shapes_finding rules fails f frame path trees =
     if length trees == shape_count frame fails then
     in_turn rules path (redex_shapes f frame fails) trees else No
 
--- no trees cover a symbol that isn't there; otherwise their paths begin without rows
+-- no trees cover a symbol that isn't there; otherwise their paths begin with its domain
 abbrev pub symbol_finding : RuleParts → ℕ → Option SymInfo → List CoverTree → Said
 symbol_finding parts f None trees = No
 symbol_finding parts f (Some info) trees =
-    shapes_finding parts.rules parts.fails (symbol f) info.frame [] trees
+    shapes_finding parts.rules parts.fails (symbol f) info.frame (domain_of parts f) trees
 
 abbrev pub one_covered : RuleParts → ℕ → List CoverTree → Said
 one_covered parts f trees = symbol_finding parts f (slice_get parts.symbols f) trees

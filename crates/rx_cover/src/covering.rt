@@ -3,7 +3,8 @@ ghost use Rattle.std.specs.Prelude.{◌≡◌, ◌<◌, ◌+◌, ◌∷◌, [], 
 ghost use Rattle.rx_cover.specs.Answers.{Tells};
 ghost use Rattle.rx_cover.specs.Covering.{Covers, covering, goes_on, in_turn, one_covered, over_failures, redex_shapes, shapes_finding, symbol};
 ghost use Rattle.rx_cert.specs.Findings.{Beyond, said};
-ghost use Rattle.rx_term.specs.Covered.{IsCovered};
+ghost use Rattle.rx_term.specs.Covered.{IsCoveredOver};
+ghost use Rattle.rx_term.specs.Domains.{domain_of, root_domains};
 
 use crate::cover_end::CoverEnd;
 use crate::cover_tree::CoverTree;
@@ -12,8 +13,8 @@ use crate::redex::Redex;
 use rx_plain::Items;
 use rx_poly::PolyEnd;
 use rx_row::Constraint;
-use rx_term::{Rule, RuleSet};
-use std::alloc::Global;
+use rx_term::{Rule, RuleParts, RuleSet};
+use std::alloc::{AllocError, Global};
 
 /// Whether the trees show, one each, the frame over the failures with the codes 1, 2, and so on, at
 /// the path.
@@ -113,6 +114,17 @@ fn examine_shapes(
     }
 }
 
+/// The domain of the symbol with that number, copied; no rows where it has none. Fails only when
+/// out of memory.
+pub fn domain_rows(alloc: Global, parts: &RuleParts, sym: usize) -> Result<Constraint, AllocError>
+    ensures { IfOk result (λ rows. rows ≡ domain_of parts.now sym) }
+{
+    match parts.domains.as_slice().get(sym) {
+        Some(rows) => rows.try_clone(alloc),
+        None => Ok(Constraint::from_rows(Vec::new(alloc))),
+    }
+}
+
 /// Whether the trees cover the symbol with that number; false where there is none.
 fn examine_symbol(
     alloc: Global,
@@ -127,13 +139,14 @@ fn examine_symbol(
     let Some(info) = rules.symbols().get(sym) else {
         return Ok(false);
     };
-    let mut path = Constraint::from_rows(Vec::new(alloc));
+    let mut path = domain_rows(alloc, rules.parts(), sym)?;
     let (all, fails) = (rules.rules(), rules.fails());
     examine_shapes(alloc, all, fails, sym, info.frame, &mut path, trees)
 }
 
 /// Whether the trees cover the symbol with that number: one tree for a point, and for a frame one
-/// over a returned value and one over each failure code, in this order. NotCovered with the number
+/// over a returned value and one over each failure code, in this order. The path of each begins with
+/// the symbol's domain. NotCovered with the number
 /// exactly where there is no such symbol or its trees fail, Large exactly where they pass the
 /// limits first.
 pub fn cover_one(
@@ -165,14 +178,14 @@ fn examine_lists(alloc: Global, rules: &RuleSet, lists: &[Items<CoverTree>]) -> 
     Ok(())
 }
 
-/// Whether the lists of trees, one for each symbol in order, cover the rule set: then at each
-/// redex, whatever its arguments are, some rule applies. NotCovered exactly at the first symbol
+/// Whether the lists of trees, one for each symbol in order, cover the rule set: then at each redex
+/// whose arguments meet the domain of its symbol some rule applies. NotCovered exactly at the first symbol
 /// whose trees fail or are missing, and at the number of symbols where there are more lists; Large
 /// exactly at the first symbol whose trees pass the limits before they fail, with none before it
 /// that fails. A tree is examined by recursion, as deep as it is.
 pub fn covers(alloc: Global, rules: &RuleSet, lists: &[Items<CoverTree>]) -> Result<(), CoverEnd>
     ensures exact { Tells (covering rules.now lists.now) result }
-    ensures covered { OnOk result (IsCovered rules.now) }
+    ensures covered { OnOk result (IsCoveredOver (root_domains rules.now) rules.now) }
 {
     examine_lists(alloc, rules, lists)
 }

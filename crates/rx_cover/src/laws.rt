@@ -7,7 +7,8 @@ ghost use Rattle.rx_cover.specs.Trees.{tree_finding};
 ghost use Rattle.rx_cover.specs.declared.cover_tree.CoverTree.{CoverTree};
 ghost use Rattle.rx_row.specs.Holds.{AllHold};
 ghost use Rattle.rx_row.specs.declared.row.Row.{Row};
-ghost use Rattle.rx_term.specs.Covered.{HasRule, IsCovered};
+ghost use Rattle.rx_term.specs.Covered.{HasRule, IsCoveredOver};
+ghost use Rattle.rx_term.specs.Domains.{root_domains};
 ghost use Rattle.rx_term.specs.Example.{example};
 ghost use Rattle.rx_term.specs.Shapes.{Shape};
 ghost use Rattle.rx_term.specs.declared.rule.Rule.{Rule};
@@ -21,11 +22,11 @@ pub fn a_tree_covers_its_path()
         tree_finding rules shape tree path ≡ Yes → AllHold a path → HasRule rules shape a }
 {}
 
-/// A rule set that lists of trees cover is covered: at each redex, whatever its arguments are, some
-/// rule applies.
+/// A rule set that lists of trees cover is covered: at each redex whose arguments meet the domain of
+/// its symbol some rule applies.
 #[tactic(auto, using(crate::proofs::CoveringLaws::covers_all))]
 pub fn trees_cover_rule_sets()
     ensures covered { (parts : RuleParts) (lists : List (List CoverTree)) →
-        covering parts lists ≡ Covers → IsCovered parts }
+        covering parts lists ≡ Covers → IsCoveredOver (root_domains parts) parts }
     ensures example { covering example trees ≡ Covers }
 {}

@@ -11,6 +11,6 @@ mod redex;
 
 pub use cover_end::CoverEnd;
 pub use cover_tree::CoverTree;
-pub use covering::{cover_one, covers};
+pub use covering::{cover_one, covers, domain_rows};
 pub use laws::{a_tree_covers_its_path, trees_cover_rule_sets};
 pub use rx_plain::NoMemory;

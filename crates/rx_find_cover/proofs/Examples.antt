@@ -25,7 +25,7 @@ use Rattle.rx_find_cover.proofs.CoverageLaws.{used_or_not}
 use Rattle.rx_find_cover.proofs.Paired.{paired_coverable}
 
 pub example_coverable : is_coverable example ≡ true
-example_coverable = paired_coverable example example_paired
+example_coverable = paired_coverable example example_paired refl
 
 -- no rows can't be refuted
 nothing_refuted : (s : Said) → refuted [] ≡ s → (as_said s).covered ≡ false

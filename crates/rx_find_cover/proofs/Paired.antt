@@ -1,7 +1,7 @@
--- A paired set is coverable: the one rule without rows is used at once; of two rules the one's
+-- A paired set without domains is coverable: the one rule without rows is used at once; of two rules the one's
 -- row is split by, unless it or its negation follows from nothing, and then each branch has a
 -- rule whose row is the path's.
-use Rattle.std.proofs.Common.{◌≡◌, ◌∙◌, ap, sym, subst, refl, cond, arith, ℕ, zero, suc, ◌+◌, ◌≤◌, Bool, true, false, not, ◌&&◌, ◌||◌, nat_eq, nat_le, Option, Some, None, List, [], ◌∷◌, slice_get}
+use Rattle.std.proofs.Common.{◌≡◌, ◌∙◌, ap, sym, subst, refl, cond, arith, ℕ, zero, suc, ◌+◌, ◌≤◌, Bool, true, false, not, ◌&&◌, ◌||◌, nat_eq, nat_le, Option, Some, None, unwrap_or, List, [], ◌∷◌, slice_get}
 use Rattle.std.specs.List.{find}
 use Rattle.std.specs.Option.{option_map_or, option_or}
 use Rattle.std.proofs.lemmas.Bool.{and_from, eq-eqb}
@@ -13,6 +13,7 @@ use Rattle.rx_row.specs.declared.row.Row.{Row}
 use Rattle.rx_cert.specs.Conditions.{is_evident, is_plain_row}
 use Rattle.rx_cert.specs.Findings.{Said, Yes, No, Beyond, and_also}
 use Rattle.rx_cert.specs.Showing.{all_shown, negation_said, shown}
+use Rattle.rx_term.specs.Domains.{domain_of}
 use Rattle.rx_term.specs.Fitting.{is_alike, is_declared}
 use Rattle.rx_term.specs.Paired.{IsPair, One, Two, IsPaired, IsRedexShape, PointShape, ReturnShape, FailShape, rules_of_shape}
 use Rattle.rx_term.specs.Shapes.{Shape, Return, Fail, Call, Frame}
@@ -126,7 +127,7 @@ pair_covers n _ (One r e) =
     (ap (λ rs. (as_said (all_shown refuted [] rs)).covered) e))
 pair_covers n _ (Two r q row e f w) = two_cover r q row e f n w
 
-module _ (parts : RuleParts) (paired : IsPaired parts) where
+module _ (parts : RuleParts) (paired : IsPaired parts) (none : parts.domains ≡ []) where
   one_shape : (shape : Shape) → IsRedexShape parts shape →
       Covered (covering_at (rules_of_shape shape parts.rules) 32 [])
   one_shape shape is = pair_covers 31 (rules_of_shape shape parts.rules) (paired shape is)
@@ -163,15 +164,29 @@ module _ (parts : RuleParts) (paired : IsPaired parts) where
       ∙ and_from (is_alike info.frame info.frame) (nat_eq info.arity info.arity)
       (alike_itself info.frame) (eq-eqb info.arity info.arity refl)
 
+  -- the path of each symbol begins without rows
+  no_domain : (f : ℕ) → domain_of parts f ≡ []
+  no_domain f = ap (λ (lists : List (List Row)). unwrap_or (slice_get lists f) []) none
+
+  from_domain : (f : ℕ) (frame : Bool) (n : ℕ) →
+      is_declared parts.symbols (symbol f) frame n ≡ true →
+      Covered (shapes_coverage parts.rules (domain_of parts f)
+      (redex_shapes (symbol f) frame parts.fails))
+  from_domain f frame n declared =
+      subst (λ path. Covered (shapes_coverage parts.rules path
+      (redex_shapes (symbol f) frame parts.fails))) (sym (no_domain f))
+      (shapes_cover (symbol f) frame n declared)
+
   symbols_cover : (f : ℕ) (infos : List SymInfo) →
       ((i : ℕ) (info : SymInfo) → slice_get infos i ≡ Some info → slice_get parts.symbols (f + i) ≡
       Some info) → Covered (symbols_coverage parts f infos)
   symbols_cover f [] at = refl
   symbols_cover f (info ∷ infos) at =
       let number : f + 0 ≡ f = omega arith in
-      and_both (shapes_coverage parts.rules [] (redex_shapes (symbol f) info.frame parts.fails))
+      and_both (shapes_coverage parts.rules (domain_of parts f)
+      (redex_shapes (symbol f) info.frame parts.fails))
       (symbols_coverage parts (f + 1) infos)
-      (shapes_cover (symbol f) info.frame info.arity
+      (from_domain f info.frame info.arity
       (declared_there f info (subst (λ k. slice_get parts.symbols k ≡ Some info) number
       (at 0 info refl))))
       (symbols_cover (f + 1) infos (λ i x there.

@@ -1,5 +1,6 @@
 -- What the answers of a search for trees say.
 use Rattle.std.specs.Prelude.{◌≡◌, ℕ, All, is_some, List, [], length}
+use Rattle.std.specs.List.{flat_map}
 use Rattle.rx_cert.specs.Findings.{Yes}
 use Rattle.rx_row.specs.declared.row.Row.{Row}
 use Rattle.rx_term.specs.Shapes.{Shape}
@@ -15,10 +16,14 @@ use Rattle.rx_find_cover.specs.declared.built.Built.{Built}
 abbrev pub outcome : {A : Type 0} → Built A → Coverage
 outcome {A} b = record { covered = is_some b.made; noted = b.noted }
 
+-- the rows of all domains
+abbrev pub domain_rows : RuleParts → List Row
+domain_rows parts = flat_map (λ (rows : List Row). rows) parts.domains
+
 -- each tree of a list is at most 33 deep, its certificates at most 174, and it has no variables
--- but those of the rules
+-- but those of the rules and of the domains
 abbrev pub AreSmall : RuleParts → List CoverTree → Type 0
-AreSmall parts trees = All (IsSmall parts.rules 33 []) trees
+AreSmall parts trees = All (IsSmall parts.rules 33 (domain_rows parts)) trees
 
 -- trees that show the shapes at the path, one each
 pub record AreTrees (rules : List Rule) (path : List Row) (shapes : List Shape)

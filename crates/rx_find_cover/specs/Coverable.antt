@@ -10,6 +10,7 @@ use Rattle.rx_row.specs.Negation.{negation, negation_within}
 use Rattle.rx_row.specs.declared.row.Row.{Row}
 use Rattle.rx_cert.specs.Conditions.{is_plain_row}
 use Rattle.rx_cert.specs.Showing.{all_shown}
+use Rattle.rx_term.specs.Domains.{domain_of}
 use Rattle.rx_term.specs.Paired.{rules_of_shape}
 use Rattle.rx_term.specs.Shapes.{Shape}
 use Rattle.rx_term.specs.declared.rule.Rule.{Rule}
@@ -63,11 +64,12 @@ shapes_coverage rules path (shape ∷ shapes) =
     and_then (covering_at (rules_of_shape shape rules) most_splits path)
     (shapes_coverage rules path shapes)
 
--- the symbols in order, the first having that number; their paths begin without rows
+-- the symbols in order, the first having that number; the path of each begins with its domain
 abbrev pub symbols_coverage : RuleParts → ℕ → List SymInfo → Coverage
 symbols_coverage parts f [] = holds
 symbols_coverage parts f (info ∷ infos) =
-    and_then (shapes_coverage parts.rules [] (redex_shapes (symbol f) info.frame parts.fails))
+    and_then (shapes_coverage parts.rules (domain_of parts f)
+    (redex_shapes (symbol f) info.frame parts.fails))
     (symbols_coverage parts (f + 1) infos)
 
 abbrev pub coverage : RuleParts → Coverage

@@ -30,8 +30,7 @@ fn build_cover<S: FnMut(&Constraint) -> Result<Option<Cert>, FmEnd>>(
     let mut lists = Items::new(alloc);
     let mut noted = false;
     for (sym, info) in parts.symbols.as_slice().iter().enumerate() {
-        let rules = parts.rules.as_slice();
-        let tried = build_symbol(alloc, rules, sym, info.frame, parts.fails, solve)?;
+        let tried = build_symbol(alloc, parts, sym, info.frame, solve)?;
         noted = noted || tried.noted;
         let Some(trees) = tried.made else {
             return Ok(Built { made: None, noted });
@@ -45,11 +44,13 @@ fn build_cover<S: FnMut(&Constraint) -> Result<Option<Cert>, FmEnd>>(
 }
 
 /// Lists of trees that cover the rule set, one list for each symbol in order, one tree for each
-/// shape of a redex with it, so that `covers` accepts them. At a path a tree uses the first rule of
+/// shape of a redex with it, so that `covers` accepts them. The path of each begins with the
+/// symbol's domain. At a path a tree uses the first rule of
 /// its shape whose rows the solver shows there; where there is none, it splits by the first row of
 /// these rules that is neither plain nor the negation of a row of the path; where there is no such
 /// row, or 32 splits are above, the solver is to refute the path. Trees are at most 33 deep, their
-/// certificates at most 174, and their variables are those of the rules' rows.
+/// certificates at most 174, and their variables are those of the rows of the
+/// rules and of the domains.
 ///
 /// None exactly where the set isn't coverable so and nothing that was tried passed the limits,
 /// Large exactly where it isn't and something did. What passes the limits counts as not shown.

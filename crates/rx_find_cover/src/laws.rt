@@ -8,10 +8,11 @@ ghost use Rattle.rx_term.specs.Example.{ends, example, goes_on};
 ghost use Rattle.rx_term.specs.Paired.{IsPaired};
 ghost use Rattle.rx_term.specs.declared.rule_set.RuleParts.{RuleParts};
 
-/// A set that has, for each shape of a redex, one rule without rows, or two with one row each, the
-/// one the negation of the other, is coverable.
+/// A set without domains that has, for each shape of a redex, one rule without rows, or two with one
+/// row each, the one the negation of the other, is coverable.
 pub fn paired_sets_are_coverable()
-    ensures { (parts : RuleParts) → IsPaired parts → is_coverable parts ≡ true }
+    ensures { (parts : RuleParts) → IsPaired parts → parts.domains ≡ [] →
+        is_coverable parts ≡ true }
 {}
 
 /// Worked cases: rx_term's example is coverable, and its point is split by the first rule's row,

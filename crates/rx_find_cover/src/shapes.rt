@@ -1,21 +1,22 @@
 //! The trees of one symbol, one for each shape of a redex with it.
-ghost use Rattle.std.specs.Prelude.{◌≡◌, [], true, map, IfOk, IfSome};
+ghost use Rattle.std.specs.Prelude.{◌≡◌, true, map, IfOk, IfSome};
 ghost use Rattle.rx_cover.specs.Covering.{redex_shapes, symbol};
 ghost use Rattle.rx_find_cover.specs.Answers.{AreTrees, outcome};
 ghost use Rattle.rx_find_cover.specs.Coverable.{shapes_coverage};
 ghost use Rattle.rx_find_cover.specs.Redexes.{shape_at};
 ghost use Rattle.rx_solve.specs.Answers.{IsSolver};
+ghost use Rattle.rx_term.specs.Domains.{domain_of};
 ghost use Rattle.rx_term.specs.declared.term.Sym.{Sym};
 
 use crate::building::build;
 use crate::built::Built;
 use crate::redex::Redex;
 use rx_cert::Cert;
-use rx_cover::CoverTree;
+use rx_cover::{CoverTree, domain_rows};
 use rx_fm::FmEnd;
 use rx_plain::{Items, NoMemory};
 use rx_row::Constraint;
-use rx_term::Rule;
+use rx_term::{Rule, RuleParts};
 use std::alloc::{AllocError, Global};
 
 /// How many splits a way through a tree has at most.
@@ -78,23 +79,26 @@ fn build_shapes<S: FnMut(&Constraint) -> Result<Option<Cert>, FmEnd>>(
     })
 }
 
-/// The trees for the shapes of the symbol, a frame or a point, up to the first that has none.
+/// The trees for the shapes of the symbol, a frame or a point, up to the first that has none. The
+/// path of each begins with the symbol's domain.
 pub(crate) fn build_symbol<S: FnMut(&Constraint) -> Result<Option<Cert>, FmEnd>>(
     alloc: Global,
-    rules: &[Rule],
+    parts: &RuleParts,
     sym: usize,
     frame: bool,
-    fails: u8,
     solve: &mut S,
 ) -> Result<Built<Items<CoverTree>>, NoMemory>
     requires solver { IsSolver S.FnMut solve.old }
     ensures solver { IsSolver S.FnMut solve.new }
     ensures coverage { IfOk result (λ b. outcome b ≡
-        shapes_coverage rules.now [] (redex_shapes (symbol sym) frame fails)) }
+        shapes_coverage parts.now.rules (domain_of parts.now sym)
+        (redex_shapes (symbol sym) frame parts.now.fails)) }
     ensures trees { IfOk result (λ b. IfSome b.made
-        (AreTrees rules.now [] (redex_shapes (symbol sym) frame fails))) }
+        (AreTrees parts.now.rules (domain_of parts.now sym)
+        (redex_shapes (symbol sym) frame parts.now.fails))) }
 {
-    let redexes = redexes_of(alloc, frame, fails)?;
-    let mut path = Constraint::from_rows(Vec::new(alloc));
+    let redexes = redexes_of(alloc, frame, parts.fails)?;
+    let mut path = domain_rows(alloc, parts, sym)?;
+    let rules = parts.rules.as_slice();
     build_shapes(alloc, rules, sym, &mut path, redexes.as_slice(), solve)
 }

@@ -16,7 +16,8 @@ use Rattle.rx_graph.specs.Graph.{IsOver}
 use Rattle.rx_term.specs.declared.rule_set.RuleParts.{RuleParts}
 use Rattle.rx_term.specs.declared.rule_set.SymInfo.{SymInfo}
 use Rattle.rx_pairs.specs.Graph.{edges_of}
-use Rattle.rx_pairs.specs.Lowering.{Descends, column_finding, descent_from, goes_on, lower_finding}
+use Rattle.rx_pairs.specs.Inside.{descent_in}
+use Rattle.rx_pairs.specs.Lowering.{Descends, column_finding, goes_on, lower_finding}
 use Rattle.rx_pairs.specs.Ranks.{bad_from, bad_rank, columns_of, is_rank}
 use Rattle.rx_pairs.specs.declared.pair.Pair.{Pair}
 use Rattle.rx_pairs.specs.declared.pair_cert.PairCert.{PairCert}
@@ -116,7 +117,7 @@ module _ (columns : List Column) (n : ℕ) (table : RankTable)
 
   descends_from : (i : ℕ) (pairs : List Pair) (closed : List (Option PairCert)) → length closed ≡
       length pairs → IsOver n (edges_of pairs) → AreLower pairs closed
-      → descent_from table i pairs (map cert_of closed) ≡ Descends
+      → descent_in table true i pairs (map cert_of closed) ≡ Descends
   descends_from i [] [] count over all = refl
   descends_from i [] (cert ∷ closed) count over all = absurd (omega (arith, count))
   descends_from i (pair ∷ pairs) [] count over all = absurd (omega (arith, count))
@@ -124,8 +125,8 @@ module _ (columns : List Column) (n : ℕ) (table : RankTable)
       let first = all 0 pair refl in
       let here : found ≡ Some first.0 = same_Some found (Some first.0) first.1 in
       ap (λ o. goes_on i (lower_finding pair table (cert_of o))
-      (descent_from table (i + 1) pairs (map cert_of closed))) here
-      ∙ ap (λ s. goes_on i s (descent_from table (i + 1) pairs (map cert_of closed)))
+      (descent_in table true (i + 1) pairs (map cert_of closed))) here
+      ∙ ap (λ s. goes_on i s (descent_in table true (i + 1) pairs (map cert_of closed)))
       (lower_by_table pair first.0 (All-head EdgeWithin (pair.left.0, pair.right.0) (edges_of pairs)
       over) first.2)
       ∙ descends_from (i + 1) pairs closed (omega (arith, count))
@@ -163,7 +164,7 @@ module _ (columns : List Column) (n : ℕ) (table : RankTable)
 
   pub table_descends : (pairs : List Pair) (closed : List (Option PairCert)) →
       IsSplit pairs columns [] closed → IsOver n (edges_of pairs)
-      → descent_from table 0 pairs (map cert_of closed) ≡ Descends
+      → descent_in table true 0 pairs (map cert_of closed) ≡ Descends
   table_descends pairs closed split over =
       descends_from 0 pairs closed split.count over
       (λ k pair there. lower_at pairs closed split k pair there (slice_get closed k) refl)

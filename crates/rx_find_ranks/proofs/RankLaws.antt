@@ -1,6 +1,6 @@
 -- The ranking of all pairs: they are those of the definition, and what rounds have come to lowers
 -- them all.
-use Rattle.std.proofs.Common.{◌≡◌, ◌∙◌, ap, arith, sym, subst, ℕ, None, List, [], ◌++◌, length, All}
+use Rattle.std.proofs.Common.{◌≡◌, ◌∙◌, ap, arith, sym, subst, ℕ, true, None, List, [], ◌++◌, length, All}
 use Rattle.std.proofs.lemmas.List.Elements.{All-append, All-nil, All-weaker}
 use Rattle.rx_graph.specs.Graph.{IsOver}
 use Rattle.rx_term.specs.WellMade.{IsMade, IsWellMade}
@@ -12,7 +12,8 @@ use Rattle.rx_pairs.proofs.LoopLaws.{all_within}
 use Rattle.rx_pairs.proofs.PairsLaws.{made_roots}
 use Rattle.rx_pairs.specs.Graph.{edges_of}
 use Rattle.rx_pairs.specs.Listed.{pairs_by_all}
-use Rattle.rx_pairs.specs.Lowering.{Descends, descent_from}
+use Rattle.rx_pairs.specs.Inside.{descent_in}
+use Rattle.rx_pairs.specs.Lowering.{Descends}
 use Rattle.rx_pairs.specs.Pairs.{AreAllPairs, HasRoot, SidesFit}
 use Rattle.rx_pairs.specs.Ranks.{bad_rank}
 use Rattle.rx_pairs.specs.declared.pair.Pair.{Pair}
@@ -74,7 +75,7 @@ module _ (parts lent : RuleParts) (hypotheses rules : List Rule) (same : lent �
         abbrev Lower : Type 0
         Lower =
             (ps : List Pair) → IsSplit ps (columns_in columns) [] after.closed.items →
-            IsOver symbols (edges_of ps) → descent_from found.table 0 ps found.certs ≡ Descends
+            IsOver symbols (edges_of ps) → descent_in found.table true 0 ps found.certs ≡ Descends
 
         abbrev Deep : Type 0
         Deep =
@@ -99,7 +100,7 @@ module _ (parts lent : RuleParts) (hypotheses rules : List Rule) (same : lent �
               ap (λ (ps : RuleParts). bad_rank ps found.table) (sym same) ∙
               lawful lent count all_lawful;
           lower = λ others all.
-              ap (λ ps. descent_from found.table 0 ps found.certs)
+              ap (λ ps. descent_in found.table true 0 ps found.certs)
               (only_all_listed (parts.rules ++ hypotheses) others all ∙ sym pairs_same)
               ∙ lower pairs last_split (subst (λ k. IsOver k (edges_of pairs)) (sym count) over);
           deep = deep pairs last_split;

@@ -1,11 +1,12 @@
 -- What the answers of a search for ranks say.
-use Rattle.std.specs.Prelude.{◌≡◌, ◌≤◌, ◌++◌, All, Option, Some, None, Result, Ok, Err, List}
+use Rattle.std.specs.Prelude.{◌≡◌, ◌≤◌, ◌++◌, true, All, Option, Some, None, Result, Ok, Err, List}
 use Rattle.rx_cert.specs.Depth.{cert_depth}
 use Rattle.rx_cert.specs.Findings.{Said, Yes, No, Beyond}
 use Rattle.rx_cert.specs.declared.cert.Cert.{Cert}
 use Rattle.rx_fm.specs.declared.fm_end.FmEnd.{FmEnd}
 use Rattle.rx_fm.specs.declared.fm_end.FmEnd.TheVariants.{Large}
-use Rattle.rx_pairs.specs.Lowering.{Descends, descent_from}
+use Rattle.rx_pairs.specs.Inside.{descent_in}
+use Rattle.rx_pairs.specs.Lowering.{Descends}
 use Rattle.rx_pairs.specs.Pairs.{AreAllPairs}
 use Rattle.rx_pairs.specs.Ranks.{bad_rank}
 use Rattle.rx_pairs.specs.declared.pair.Pair.{Pair}
@@ -32,6 +33,6 @@ pub record HasColumns (table : RankTable) : Type 0 where
 pub record LowersAll (parts : RuleParts) (hypotheses : List Rule) (found : Ranking) : Type 0 where
   pub lawful : bad_rank parts found.table ≡ None
   pub lower : (pairs : List Pair) → AreAllPairs (parts.rules ++ hypotheses) pairs →
-      descent_from found.table 0 pairs found.certs ≡ Descends
+      descent_in found.table true 0 pairs found.certs ≡ Descends
   pub deep : All (λ (c : PairCert). All (λ (cert : Cert). cert_depth cert ≤ most_deep) c.certs)
       found.certs

@@ -1,8 +1,9 @@
 //! The table of the columns that were found.
-ghost use Rattle.std.specs.Prelude.{◌≡◌, ◌≤◌, ◌^◌, All, IfOk, List, None, [], length};
+ghost use Rattle.std.specs.Prelude.{◌≡◌, ◌≤◌, ◌^◌, All, IfOk, List, None, [], length, true};
 ghost use Rattle.rx_graph.specs.Graph.{IsOver};
 ghost use Rattle.rx_pairs.specs.Graph.{edges_of};
-ghost use Rattle.rx_pairs.specs.Lowering.{Descends, descent_from};
+ghost use Rattle.rx_pairs.specs.Inside.{descent_in};
+ghost use Rattle.rx_pairs.specs.Lowering.{Descends};
 ghost use Rattle.rx_pairs.specs.Ranks.{bad_rank};
 ghost use Rattle.rx_pairs.specs.declared.pair.Pair.{Pair};
 ghost use Rattle.rx_term.specs.declared.rule_set.RuleParts.{RuleParts};
@@ -29,7 +30,8 @@ pub(crate) fn ranking_of(
         All (IsLawful parts.symbols) (columns_in columns.now) → bad_rank parts found.table ≡ None) }
     ensures lower { IfOk result (λ found. (pairs : List Pair) →
         IsSplit pairs (columns_in columns.now) [] closed.items →
-        IsOver symbols (edges_of pairs) → descent_from found.table 0 pairs found.certs ≡ Descends) }
+        IsOver symbols (edges_of pairs) →
+        descent_in found.table true 0 pairs found.certs ≡ Descends) }
     ensures deep { IfOk result (λ found. (pairs : List Pair) →
         IsSplit pairs (columns_in columns.now) [] closed.items → All IsDeepPair found.certs) }
     ensures columns { IfOk result (λ found. found.table.columns ≡ length columns.now) }

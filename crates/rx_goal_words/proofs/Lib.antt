@@ -1,1 +1,2 @@
 -- Lemmas on goals in words.
+pub mod RowLaws

@@ -1,5 +1,5 @@
 -- A condition of a step: a row that it asks.
-use Rattle.std.specs.Prelude.{ℕ, Option, Some, None, Ok, Err, List, [], ◌∷◌, ◌++◌, codes, decimal, slice_get}
+use Rattle.std.specs.Prelude.{ℕ, Option, Some, None, Ok, Err, List, [], ◌++◌, codes, decimal, flat_map, slice_get}
 use Rattle.rx_inference.specs.Forming.{Forming}
 use Rattle.rx_inference.specs.Kinds.{formed}
 use Rattle.rx_inference.specs.States.{State}
@@ -12,10 +12,9 @@ use Rattle.rx_row.specs.declared.row.Row.{Row}
 use Rattle.rx_term.specs.declared.rule_set.RuleParts.{RuleParts}
 use Rattle.rx_text.specs.Rows.{row_text}
 
--- the row with this number, counted from 0; a step asks the rows of one group, or none
+-- the row with this number, counted from 0 over all groups in order
 abbrev pub row_in : List Group → ℕ → Option Row
-row_in [] number = None
-row_in (group ∷ groups) number = slice_get group.rows number
+row_in groups number = slice_get (flat_map (λ (group : Group). group.rows) groups) number
 
 abbrev pub row_line : ℕ → Option Row → List ℕ
 row_line number None = []

@@ -12,14 +12,22 @@ use rx_term::RuleSet;
 use rx_text::{push_row, push_word};
 use std::alloc::Global;
 
-// The row with this number, counted from 0, of the one group, if there is one.
+// The row with this number, counted from 0 over all groups in order, if there is one.
+#[tactic(auto, using(crate::proofs::RowLaws::in_first, crate::proofs::RowLaws::in_others))]
 fn row_in(groups: &[Group], number: usize) -> Option<&Row>
     ensures { option_copied result ≡ spec.row_in groups.now number }
 {
-    match groups {
-        [group, ..] => group.rows.as_slice().get(number),
-        [] => None,
+    let mut rest = groups;
+    let mut left = number;
+    while let Some((group, more)) = rest.split_first() {
+        let rows = group.rows.as_slice();
+        if left < rows.len() {
+            return rows.get(left);
+        }
+        left -= rows.len();
+        rest = more;
     }
+    None
 }
 
 // Adds a row with its number, if there is one.

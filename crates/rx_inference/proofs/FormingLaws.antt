@@ -10,7 +10,7 @@ use Rattle.rx_term.specs.declared.rule_set.RuleParts.{RuleParts}
 use Rattle.rx_inference.specs.Forming.{Forming, found_or, limited, provided, ◌>>=◌}
 use Rattle.rx_inference.specs.Judging.{Shown, bare, certificates, first_rows, judged}
 use Rattle.rx_inference.specs.Kinds.{formed, formed_on}
-use Rattle.rx_inference.specs.Making.{decomposed_by, different_by, equal_by, expanded_by_all, generalised_by, resulting_by, simplified_by, split_by}
+use Rattle.rx_inference.specs.Making.{decomposed_by, different_by, equal_by, expanded_by_all, generalised_by, postulated_by, resulting_by, simplified_by, split_by}
 use Rattle.rx_inference.specs.Pieces.{have_one_shape, is_equation, is_substitution, side_of, top_frame}
 use Rattle.rx_inference.specs.States.{State, applied, carried_out, taken, taken_if}
 use Rattle.rx_inference.specs.declared.form_end.FormEnd.TheVariants.{WrongShape, NoSuchRule, Large, NoMemory}
@@ -109,10 +109,11 @@ module _ (parts : RuleParts) (hypotheses : List Rule) (goal : Equation) where
       tested (have_one_shape goal.left goal.right) _ (kept (equal_by goal))
   never_on step.EqDelete = tested (have_one_shape goal.left goal.right) _ (kept (different_by goal))
   never_on (step.Generalise left right rows ws certs) =
-      tested _ _ (kept (generalised_by goal (record { left = left; right = right; rows = rows })
-      ws))
+      tested _ _ (kept (generalised_by parts goal
+      (record { left = left; right = right; rows = rows }) ws))
   never_on (step.Postulate left right rows certs) =
-      tested (is_equation parts (record { left = left; right = right; rows = rows })) _ (found _)
+      tested (is_equation parts (record { left = left; right = right; rows = rows })) _
+      (kept (postulated_by parts goal (record { left = left; right = right; rows = rows })))
   never_on (step.Split row) = tested _ _ (kept (split_by goal row))
   never_on (step.Decompose certs) =
       after (found_or WrongShape (top_frame goal.left)) _ (part (top_frame goal.left)) (λ one.

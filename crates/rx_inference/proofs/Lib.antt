@@ -1,5 +1,6 @@
 -- Lemmas on the definitions of specs/.
 pub mod Filtering
 pub mod FormingLaws
+pub mod InsideLaws
 pub mod JudgingLaws
 pub mod PieceLaws

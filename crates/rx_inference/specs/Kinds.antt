@@ -70,11 +70,11 @@ abbrev pub generalised : RuleParts → Equation → Equation → List (ℕ × Bo
 generalised parts goal new ws =
     provided (is_equation parts new && (is_substitution ws &&
     (have_one_shape new.left goal.left && have_one_shape new.right goal.right)))
-    (limited (generalised_by goal new ws))
+    (limited (generalised_by parts goal new ws))
 
 -- Postulate: the new goal is an equation
 abbrev pub postulated : RuleParts → Equation → Equation → Forming FormedStep
-postulated parts goal new = provided (is_equation parts new) (Ok (postulated_by goal new))
+postulated parts goal new = provided (is_equation parts new) (limited (postulated_by parts goal new))
 
 -- Split: all variables of the row are below the limit
 abbrev pub split : Equation → Row → Forming FormedStep

@@ -10,6 +10,7 @@ use Rattle.rx_row.specs.declared.row.Row.{Row}
 use Rattle.rx_row.specs.declared.row.Row.TheVariants as row
 use Rattle.rx_term.specs.Bounds.{equation_bound}
 use Rattle.rx_term.specs.Differences.{term_differences}
+use Rattle.rx_term.specs.Domains.{inside_of}
 use Rattle.rx_term.specs.Meaning.{matched}
 use Rattle.rx_term.specs.Paired.{rules_of_shape}
 use Rattle.rx_term.specs.Shapes.{shape_of}
@@ -17,10 +18,13 @@ use Rattle.rx_term.specs.Stacks.{replace_redex, replace_at}
 use Rattle.rx_term.specs.Substitution.{term_with}
 use Rattle.rx_term.specs.declared.rule.Equation.{Equation}
 use Rattle.rx_term.specs.declared.rule.Rule.{Rule}
+use Rattle.rx_term.specs.declared.rule_set.RuleParts.{RuleParts}
 use Rattle.rx_term.specs.declared.term.Term.{Term}
 use Rattle.rx_term.specs.declared.term.Term.TheVariants.{Return, Fail}
 use Rattle.rx_inference.specs.Pieces.{asking, asking_nothing, equal_arguments, equal_lists, other_side, rule_with, side_of, with_rows, with_side}
+use Rattle.rx_inference.specs.declared.formed_step.Asked.TheVariants as asked
 use Rattle.rx_inference.specs.declared.formed_step.FormedStep.{FormedStep}
+use Rattle.rx_inference.specs.declared.formed_step.Under.TheVariants as under
 use Rattle.rx_inference.specs.declared.pieces.RuleInstance.{RuleInstance}
 use Rattle.rx_inference.specs.declared.step.Side.{Side}
 
@@ -105,13 +109,34 @@ instance_rows ws new goal = do
   sides ← side_rows ws new goal
   (λ rows. sides ++ rows) <$> rows_with ws new.rows
 
--- the new goal in place of this one, which is its instance
-abbrev pub generalised_by : Equation → Equation → List (ℕ × Body) → Formed FormedStep
-generalised_by goal new ws = (λ rows. asking rows (new ∷ [])) <$> instance_rows ws new goal
+-- rows under those of the goal, others under those of the new goal, and it in place of the goal
+abbrev pub asking_inside : List Row → List Row → Equation → FormedStep
+asking_inside rows inside new =
+    record {
+      asked = asked.Rows (record { under = under.Goal; rows = rows } ∷
+          record { under = under.New; rows = inside } ∷ []);
+      goals = new ∷ [];
+      kept = [];
+    }
 
--- the new goal before the old one
-abbrev pub postulated_by : Equation → Equation → FormedStep
-postulated_by goal new = asking_nothing (new ∷ goal ∷ []) []
+-- the new goal, inside the domains, in place of this one, which is its instance
+abbrev pub generalised_by : RuleParts → Equation → Equation → List (ℕ × Body) → Formed FormedStep
+generalised_by parts goal new ws = do
+  rows ← instance_rows ws new goal
+  (λ inside. asking_inside rows inside new) <$> inside_of parts new
+
+-- rows under those of the new goal, and it before the old one
+abbrev pub asking_before : List Row → Equation → Equation → FormedStep
+asking_before inside new goal =
+    record {
+      asked = asked.Rows (record { under = under.New; rows = inside } ∷ []);
+      goals = new ∷ goal ∷ [];
+      kept = [];
+    }
+
+-- the new goal, inside the domains, before the old one
+abbrev pub postulated_by : RuleParts → Equation → Equation → Formed FormedStep
+postulated_by parts goal new = (λ inside. asking_before inside new goal) <$> inside_of parts new
 
 -- the goal with the row, and then with its negation
 abbrev pub split_by : Equation → Row → Formed FormedStep

@@ -14,7 +14,7 @@ use crate::rewriting::{expand, simplify, use_hypothesis};
 use crate::step::Step;
 use rx_poly::Poly;
 use rx_row::Constraint;
-use rx_term::{Equation, Rule, RuleParts, RuleSet, Term};
+use rx_term::{Equation, Rule, RuleSet, Term};
 use std::alloc::{AllocError, Global};
 
 /// An equation of copies.
@@ -36,7 +36,7 @@ fn equation(
 /// What generalising makes of the goal, which is to be an instance of a new one of these parts.
 fn generalise_to(
     alloc: Global,
-    rules: &RuleParts,
+    rules: &RuleSet,
     goal: &Equation,
     left: &Term,
     right: &Term,
@@ -53,7 +53,7 @@ fn generalise_to(
 /// What a step makes of the goal.
 fn form_on(
     alloc: Global,
-    rules: &RuleParts,
+    rules: &RuleSet,
     goal: &Equation,
     hypotheses: &[Rule],
     step: &Step,
@@ -62,7 +62,7 @@ fn form_on(
 {
     match step {
         Step::Simplify { side, rule, .. } => {
-            simplify(alloc, rules.rules.as_slice(), goal, *side, *rule)
+            simplify(alloc, rules.parts().rules.as_slice(), goal, *side, *rule)
         }
         Step::Hyp {
             side,
@@ -79,7 +79,13 @@ fn form_on(
             *hyp,
             subst.as_slice(),
         ),
-        Step::Expand { side, keep } => expand(alloc, rules.rules.as_slice(), goal, *side, *keep),
+        Step::Expand { side, keep } => expand(
+            alloc,
+            rules.parts().rules.as_slice(),
+            goal,
+            *side,
+            *keep,
+        ),
         Step::Delete(by) => delete(alloc, goal, by),
         Step::EqDelete => tell_apart(alloc, goal),
         Step::Generalise {
@@ -101,7 +107,7 @@ fn form_on(
         Step::Split { row } => split(alloc, goal, row),
         Step::Decompose { .. } => decompose(alloc, goal),
         Step::Results { left, right, .. } => {
-            replace_by_results(alloc, rules.fails, goal, *left, *right)
+            replace_by_results(alloc, rules.parts().fails, goal, *left, *right)
         }
     }
 }
@@ -120,7 +126,7 @@ pub fn form(
     ensures { Gives result (formed rules.now (option_copied first.entry) hypotheses.now step.now) }
 {
     match first {
-        Some(goal) => form_on(alloc, rules.parts(), goal, hypotheses, step),
+        Some(goal) => form_on(alloc, rules, goal, hypotheses, step),
         None => Err(FormEnd::NoGoal),
     }
 }

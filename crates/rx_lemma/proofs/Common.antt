@@ -21,6 +21,7 @@ use Rattle.rx_row.specs.declared.row.Row.{Row}
 use Rattle.rx_row.specs.declared.row.Row.TheVariants.{Ge, Eq, Ne}
 use Rattle.rx_term.proofs.Equations.{arguments-Return, arguments-Fail, arguments-Call, arguments-Frame, induct, within-Return, within-Fail, within-Call, within-Frame}
 use Rattle.rx_term.proofs.KeepingLaws.{arguments_in_term}
+use Rattle.rx_term.specs.Domains.{inside_of}
 use Rattle.rx_term.specs.Substitution.{polys_within, subst_polys, subst_term, term_within}
 use Rattle.rx_term.specs.Variables.{arguments_of}
 use Rattle.rx_term.specs.declared.rule.Equation.{Equation}
@@ -36,7 +37,7 @@ use Rattle.rx_inference.specs.Making.{generalised_by, instance_equals, instance_
 use Rattle.rx_inference.specs.Pieces.{equal_lists, have_one_shape, is_equation, is_substitution}
 use Rattle.rx_inference.specs.declared.form_end.FormEnd.TheVariants.{Large}
 use Rattle.rx_lemma.specs.Lemmas.{Generalisation}
-use Rattle.rx_lemma.specs.Lawful.{IsLawful}
+use Rattle.rx_lemma.specs.Lawful.{IsLawfulInside}
 use Rattle.rx_lemma.proofs.Polynomials.{none_left, replaces_from, stays_itself}
 
 -- ---- what is shown
@@ -219,8 +220,8 @@ pub record IsMoreGeneral (parts : RuleParts) (goal : Equation) (lemma : Generali
     pub rows : All (HasInstance lemma.subst goal.rows) lemma.goal.rows
 
 pub lawful : (parts : RuleParts) (goal : Equation) (lemma : Generalisation) →
-    IsMoreGeneral parts goal lemma → IsLawful parts goal lemma
-lawful parts goal lemma m =
+    IsMoreGeneral parts goal lemma → IsLawfulInside parts goal lemma
+lawful parts goal lemma m stays =
     let new = lemma.goal in
     let ws = lemma.subst in
     let left = side_shown ws goal.rows new.left goal.left m.left in
@@ -230,15 +231,20 @@ lawful parts goal lemma m =
     let whole = both_shown goal.rows (side_rows ws new goal) (rows_with ws new.rows) sides
     (rows_shown ws goal.rows new.rows m.rows) in
     let shapes = have_one_shape new.left goal.left && have_one_shape new.right goal.right in
-    let made = generalised_by goal new ws in
+    let asked = instance_rows ws new goal in
+    let inside = inside_of parts new in
+    let made = generalised_by parts goal new ws in
     let tests : (is_equation parts new && (is_substitution ws && shapes)) ≡ true =
     and_from (is_equation parts new) (is_substitution ws && shapes) m.fits
     (and_from (is_substitution ws) shapes m.substitutes
     (and_from (have_one_shape new.left goal.left) (have_one_shape new.right goal.right)
     m.left_shape m.right_shape)) in
     record {
-      rows = (instance_rows ws new goal).form;
+      rows = asked.form;
+      inside = inside.form;
       formed = ap (λ b. provided b (limited made)) tests
-          ∙ ap (λ b. cond b (Ok made.form) (Err Large)) whole.within;
+          ∙ ap (λ b. cond b (Ok made.form) (Err Large))
+          (and_from asked.within inside.within whole.within stays.within);
       follows = whole.follow;
+      stays = stays.follows;
     }

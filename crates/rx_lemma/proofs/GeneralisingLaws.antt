@@ -29,7 +29,7 @@ use Rattle.rx_lemma.specs.Generalising.{Found, as_list, both_found, generalisati
 use Rattle.rx_lemma.specs.Repeated.{new_variables, repeated}
 use Rattle.rx_lemma.specs.RuleRows.{formed_added, rows_added, rule_rows}
 use Rattle.rx_lemma.specs.Values.{gives_value, other_rows}
-use Rattle.rx_lemma.specs.Lawful.{IsGoal, IsLawful}
+use Rattle.rx_lemma.specs.Lawful.{IsGoal, IsLawfulInside}
 use Rattle.rx_lemma.specs.LawfulGeneralisations.{GeneralisationsAreLawful}
 use Rattle.rx_lemma.proofs.Common.{AreInstances, Nothing, OneMore, is_instance, lawful}
 use Rattle.rx_lemma.proofs.Polynomials.{are_polys, replaces_from, stays_itself}
@@ -132,7 +132,7 @@ module _ (parts : RuleParts) (goal : Equation) (made : IsWellMade parts) (is : I
           (bounded variable_limit e (with_rows_below rows h)))
 
       lawful_with : (rows : List Row) → AreFitting variable_limit ws goal.rows rows →
-          IsLawful parts goal (with_rows rows)
+          IsLawfulInside parts goal (with_rows rows)
       lawful_with rows h =
           lawful parts goal (with_rows rows) (record {
             fits = fits_rules rows h;
@@ -145,7 +145,7 @@ module _ (parts : RuleParts) (goal : Equation) (made : IsWellMade parts) (is : I
           })
 
       found_lawful : (o : Option (List Row)) → IfSome o (AreFitting variable_limit ws goal.rows) →
-          IfSome (option_map (over_rows kind new ws) o) (IsLawful parts goal)
+          IfSome (option_map (over_rows kind new ws) o) (IsLawfulInside parts goal)
       found_lawful None h = tt
       found_lawful (Some rows) h = lawful_with rows h
 
@@ -161,7 +161,7 @@ module _ (parts : RuleParts) (goal : Equation) (made : IsWellMade parts) (is : I
           by true = rows_added_fit variable_limit ws goal.rows more.form rows below h
           by false = tt
 
-      generalised_lawful : IfSome (generalised parts.rules goal kind new ws) (IsLawful parts goal)
+      generalised_lawful : IfSome (generalised parts.rules goal kind new ws) (IsLawfulInside parts goal)
       unfolding generalised
       generalised_lawful =
           found_lawful
@@ -225,9 +225,9 @@ module _ (parts : RuleParts) (goal : Equation) (made : IsWellMade parts) (is : I
     -- ---- both
 
     abbrev Lawful : Found → Type 0
-    Lawful found = IfSome found (λ (o : Option Generalisation). IfSome o (IsLawful parts goal))
+    Lawful found = IfSome found (λ (o : Option Generalisation). IfSome o (IsLawfulInside parts goal))
 
-    one_found : (o : Option Generalisation) → IfSome o (IsLawful parts goal) →
+    one_found : (o : Option Generalisation) → IfSome o (IsLawfulInside parts goal) →
         Lawful (option_map Some o)
     one_found None h = tt
     one_found (Some lemma) h = h
@@ -266,20 +266,20 @@ module _ (parts : RuleParts) (goal : Equation) (made : IsWellMade parts) (is : I
         (replacing_by parts.rules goal (new_variables bound (p ∷ ps)))
         (λ h. by_lawful (p ∷ ps) (few_enough (bound + length (p ∷ ps)) h) taken)
 
-    listed : (o : Option Generalisation) → IfSome o (IsLawful parts goal) →
-        All (IsLawful parts goal) (as_list o)
-    listed None h = All-nil (IsLawful parts goal)
-    listed (Some lemma) h = All-cons (IsLawful parts goal) lemma [] h (All-nil (IsLawful parts goal))
+    listed : (o : Option Generalisation) → IfSome o (IsLawfulInside parts goal) →
+        All (IsLawfulInside parts goal) (as_list o)
+    listed None h = All-nil (IsLawfulInside parts goal)
+    listed (Some lemma) h = All-cons (IsLawfulInside parts goal) lemma [] h (All-nil (IsLawfulInside parts goal))
 
     both_lawful : (first second : Found) → Lawful first → Lawful second →
-        IfSome (both_found first second) (All (IsLawful parts goal))
+        IfSome (both_found first second) (All (IsLawfulInside parts goal))
     both_lawful None second h k = tt
     both_lawful (Some first) None h k = tt
     both_lawful (Some first) (Some second) h k =
-        All-append (IsLawful parts goal) (as_list first) (as_list second) (listed first h)
+        All-append (IsLawfulInside parts goal) (as_list first) (as_list second) (listed first h)
         (listed second k)
 
-    all_found_lawful : IfSome (generalisations parts goal) (All (IsLawful parts goal))
+    all_found_lawful : IfSome (generalisations parts goal) (All (IsLawfulInside parts goal))
     unfolding generalisations
     all_found_lawful =
         both_lawful (without_values parts.rules goal) (replacing_repeated parts.rules goal)

@@ -40,7 +40,7 @@ use Rattle.rx_lemma.specs.Naming.{gives, goal_with, has_constant, named_argument
 use Rattle.rx_lemma.specs.Shapes.{HasShapesOf}
 use Rattle.rx_lemma.proofs.ShapeLaws.{naming_shapes}
 use Rattle.rx_lemma.proofs.SubstitutionLaws.{naming_substitutes}
-use Rattle.rx_lemma.specs.Lawful.{IsGoal, IsLawful}
+use Rattle.rx_lemma.specs.Lawful.{IsGoal, IsLawfulInside}
 use Rattle.rx_lemma.specs.LawfulNaming.{NamingIsLawful}
 use Rattle.rx_lemma.proofs.Common.{lawful}
 use Rattle.rx_lemma.proofs.NamingRows.{all_instances, rows_instances}
@@ -395,7 +395,7 @@ module _ (parts : RuleParts) (goal : Equation) (holds : IsGoal parts goal) where
         (ready.sides Left).1 (ready.sides Right).1) test
 
     found_lawful : is_substitution m.subst ≡ true → HasShapesOf goal m.goal →
-        IsLawful parts goal (named_goal parts m)
+        IsLawfulInside parts goal (named_goal parts m)
     found_lawful substitutes shapes =
         let le : bound ≤ bound = omega arith in
         lawful parts goal (named_goal parts m) (record {
@@ -420,7 +420,7 @@ module _ (parts : RuleParts) (goal : Equation) (holds : IsGoal parts goal) where
   -- a lawful step, where what it is replaced by is a substitution and the shapes are kept
   abbrev Lawful : Generalisation → Type 0
   Lawful found =
-      is_substitution found.subst ≡ true → HasShapesOf goal found.goal → IsLawful parts goal found
+      is_substitution found.subst ≡ true → HasShapesOf goal found.goal → IsLawfulInside parts goal found
 
   found_after : (o : Option Naming) (other : Tried Generalisation) → IfSome o Ready →
       IfSome other.made Lawful →
@@ -451,6 +451,6 @@ if_all P Q R (Some x) p q r = r p q
 pub naming_lawful : NamingIsLawful
 naming_lawful parts goal holds =
     if_all (λ (found : Generalisation). is_substitution found.subst ≡ true)
-    (λ (found : Generalisation). HasShapesOf goal found.goal) (IsLawful parts goal)
+    (λ (found : Generalisation). HasShapesOf goal found.goal) (IsLawfulInside parts goal)
     (naming_of parts goal).made (naming_substitutes parts goal) (naming_shapes parts goal)
     (all_found parts goal holds)

@@ -2,7 +2,7 @@
 -- Naming goes on place by place, it keeps the shapes of both sides, and what its new variables are
 -- replaced by is a substitution.
 -- Whether a polynomial is a variable without its constant, term by term.
--- Lemmas are lawful steps.
+-- Lemmas are lawful steps, and without domains nothing is asked of them alone.
 pub mod CallLaws
 pub mod Common
 pub mod GeneralisingLaws
@@ -10,6 +10,7 @@ pub mod GeneralisingOccurrences
 pub mod GeneralisingRows
 pub mod GeneralisingTerms
 pub mod GeneralisingVariables
+pub mod InsideLaws
 pub mod LemmaLawsNamingLaws
 pub mod NamingLaws
 pub mod NamingRows

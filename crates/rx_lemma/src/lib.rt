@@ -40,7 +40,9 @@ pub use generalised::Generalised;
 pub use generalising::lemmas;
 pub use laws::{naming_keeps_shapes, naming_substitutes};
 pub use lemma::{LemmaKind, VARIABLES_END};
-pub use lemma_laws::{generalisations_are_lawful, naming_is_lawful};
+pub use lemma_laws::{
+    generalisations_are_lawful, naming_is_lawful, without_domains_all_stay_inside,
+};
 pub use naming::named;
 pub use premises::equations_are_goals;
 pub use rx_plain::NoMemory;

@@ -9,12 +9,10 @@ use Rattle.rx_inference.specs.States.{State, applied}
 use Rattle.rx_inference.specs.declared.step.Step.{Step}
 use Rattle.rx_cover.specs.Covering.{Covering, Covers, covering}
 use Rattle.rx_cover.specs.Covering as cover
-use Rattle.rx_pairs.specs.Lowering.{Descent, Descends, descent_from}
+use Rattle.rx_pairs.specs.Inside.{descends_in}
+use Rattle.rx_pairs.specs.Lowering.{Descent, Descends}
 use Rattle.rx_pairs.specs.Lowering as lowering
-use Rattle.rx_pairs.specs.Pairs.{AreAllPairs}
 use Rattle.rx_pairs.specs.Ranks.{bad_rank}
-use Rattle.rx_pairs.specs.declared.pair.Pair.{Pair}
-use Rattle.rx_pairs.specs.declared.pair_cert.PairCert.{PairCert}
 use Rattle.rx_pairs.specs.declared.table.RankTable.{RankTable}
 use Rattle.rx_log.specs.declared.log.Log.{Log}
 
@@ -112,24 +110,19 @@ of_descent Descends = Accepted
 of_descent (lowering.NotLower i) = Fails (NotLower i)
 of_descent (lowering.PassesLimits i) = Fails (PassesLimits (AtPair i))
 
--- the verdict on the pairs of rules
-pub record OnPairs (rules : List Rule) (table : RankTable) (certs : List PairCert)
-    (verdict : Verdict)
-    : Type 0 where
-  pub pairs : List Pair
-  pub all_pairs : AreAllPairs rules pairs
-  pub is : of_descent (descent_from table 0 pairs certs) ≡ verdict
-
--- the verdict by what the checks before came to: the pairs are those of the rules, and then of the
--- hypotheses
-abbrev pub Concludes : RuleParts → Log → Checked (List Rule) → Verdict → Type 0
-Concludes parts log (Err fault) verdict = verdict ≡ Fails fault
-Concludes parts log (Ok hypotheses) verdict =
-    OnPairs (parts.rules ++ hypotheses) log.table log.pairs verdict
+-- the verdict by what the checks before that of pairs came to: the pairs are those of the rules,
+-- and then of the hypotheses
+abbrev pub concluded : RuleParts → Log → Checked (List Rule) → Verdict
+concluded parts log (Err fault) = Fails fault
+concluded parts log (Ok hypotheses) =
+    of_descent (descends_in parts (parts.rules ++ hypotheses) log.table log.pairs)
 
 -- the verdict on a log, for rules and a goal
+abbrev pub verdict_on : RuleParts → Equation → Log → Verdict
+verdict_on parts goal log = concluded parts log (kept parts goal log)
+
 abbrev pub HasVerdict : RuleParts → Equation → Log → Verdict → Type 0
-HasVerdict parts goal log verdict = Concludes parts log (kept parts goal log) verdict
+HasVerdict parts goal log verdict = verdict_on parts goal log ≡ verdict
 
 abbrev pub IsAccepted : RuleParts → Equation → Log → Type 0
 IsAccepted parts goal log = HasVerdict parts goal log Accepted

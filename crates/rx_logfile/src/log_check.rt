@@ -95,8 +95,10 @@ impl LogCheck {
         Ok(())
     }
 
-    /// Whether the log is accepted, of which the whole text was taken, or why not.
+    /// Whether the log is accepted, of which the whole text was taken, or why not. The rules must
+    /// have no domains.
     pub fn finish(self, rules: &RuleSet) -> Result<(), FileEnd>
+        requires no_domains { rules.now.domains ≡ [] }
         requires room { lines_in self + 1 < 2 ^ 64 }
         requires step { IsInStep self }
         ensures said { (goal : Equation) (bytes : List ℕ) → StandsFor self rules.now goal bytes →

@@ -1,5 +1,5 @@
 //! A log that is replayed while its file is read.
-ghost use Rattle.std.specs.Prelude.{◌≡◌, ◌≢◌, ◌≤◌, Err};
+ghost use Rattle.std.specs.Prelude.{◌≡◌, ◌≢◌, ◌≤◌, [], Err};
 ghost use Rattle.rx_io.specs.Outside.{Rose};
 ghost use Rattle.rx_check.specs.declared.check_end.CheckEnd.{CheckEnd};
 ghost use Rattle.rx_logfile.specs.LogFiles.{OnFile};
@@ -20,7 +20,7 @@ const PIECE: usize = 65_536;
 /// The file is read to its end, whatever the first lines have come to, since a call that fails, too
 /// many bytes and a bad line count before the replay. Kept are a piece of the file, the next line,
 /// and what the replay keeps; never the text or the log. Where memory runs out the answer is
-/// NoMemory, and never that of a check.
+/// NoMemory, and never that of a check. The rules must have no domains.
 pub fn replay_file<F: Files>(
     alloc: Global,
     rules: &RuleSet,
@@ -29,6 +29,7 @@ pub fn replay_file<F: Files>(
     name: &str,
     limit: u32,
 ) -> Result<(), FileEnd>
+    requires no_domains { rules.now.domains ≡ [] }
     ensures reach { F.reaches files.old files.new }
     ensures held { F.held files.new ≡ F.held files.old }
     ensures later { F.faults files.old ≤ F.faults files.new }

@@ -2,7 +2,6 @@
 use Rattle.std.proofs.Common.{◌≡◌, ℕ, suc, inl, Option, Some, None, List, [], ◌∷◌, ◌++◌, map, refl, sym, ap, subst, ◌∙◌, ℤ, All}
 use Rattle.std.proofs.lemmas.List.{append-nil}
 use Rattle.std.proofs.lemmas.List.Elements.{All-head, All-tail}
-use Rattle.rx_rewriting.specs.Terms.{in_context}
 use Rattle.rx_rewriting.specs.Ranks.{Rank, Weight, AllBelow, Smaller, weight_of, ranks_of}
 use Rattle.rx_rewriting.proofs.SmallerWeights.{Smaller-exchange, weight_of-in_context}
 use Rattle.rx_term.specs.Meaning.{values, ground_at, outer_frames}

@@ -6,6 +6,7 @@ pub mod Deciding
 pub mod DescendingLaws
 pub mod Descent
 pub mod EdgeLaws
+pub mod InsideLaws
 pub mod ListedLaws
 pub mod LoopLaws
 pub mod Lowered

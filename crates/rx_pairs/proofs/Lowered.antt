@@ -6,7 +6,7 @@ use Rattle.std.specs.List.{enumerate_from, list_all}
 use Rattle.std.specs.Option.{option_map_or}
 use Rattle.std.proofs.lemmas.Bool.{and_parts, eqb-true, leb-true, ltb-true}
 use Rattle.std.proofs.lemmas.List.{length-map}
-use Rattle.std.proofs.lemmas.List.Elements.{All-append, All-cons, All-contains, All-head, All-nil, All-tail, All-weaker}
+use Rattle.std.proofs.lemmas.List.Elements.{All-cons, All-contains, All-head, All-nil, All-tail, All-weaker}
 use Rattle.std.proofs.lemmas.Option.{none-some, same_Some}
 use Rattle.rx_poly.specs.Substitution.{numbered, updated_assignment}
 use Rattle.rx_poly.specs.Value.{value}
@@ -32,14 +32,15 @@ use Rattle.rx_term.proofs.TogetherLaws.{numbered_in_order, of_either_list}
 use Rattle.rx_term.specs.Assigned.{assigned}
 use Rattle.rx_term.specs.Fitting.{is_alike, is_declared, term_fits}
 use Rattle.rx_term.specs.Meaning.{Instance, ground_at, signature, values}
-use Rattle.rx_term.specs.WellMade.{IsMade, IsWellMade}
+use Rattle.rx_term.specs.WellMade.{IsMade}
 use Rattle.rx_term.specs.declared.rule.Rule.{Rule}
 use Rattle.rx_term.specs.declared.rule_set.RuleParts.{RuleParts}
 use Rattle.rx_term.specs.declared.rule_set.SymInfo.{SymInfo}
 use Rattle.rx_term.specs.declared.term.Sym.{Sym}
 use Rattle.rx_term.specs.declared.term.Term.{Term}
 use Rattle.rx_term.specs.declared.term.Term.TheVariants.{Call, Frame}
-use Rattle.rx_pairs.specs.Lowering.{Descends, IsLower, descent_from, goes_on, has_column, lower_finding, lower_rows, rows_finding}
+use Rattle.rx_pairs.specs.Inside.{descent_in}
+use Rattle.rx_pairs.specs.Lowering.{Descends, IsLower, goes_on, has_column, lower_finding, lower_rows, rows_finding}
 use Rattle.rx_pairs.specs.Pairs.{AreAllPairs, NoRules, OneMore, ArePairs, PairsOf, AreParts, Common, AtReturn, AtFail, AtCall, AtFrame, IsRoot, OfCall, OfFrame, Part, SidesFit, pair_of, part}
 use Rattle.rx_pairs.specs.Ranks.{bad_from, bad_rank, column, columns_of, is_rank, rank_of}
 use Rattle.rx_pairs.specs.declared.pair.Pair.{Pair}
@@ -199,15 +200,15 @@ module _ (parts : RuleParts) (table : RankTable) (good : bad_rank parts table �
   abbrev pub IsFoundLower : Pair → Type 0
   IsFoundLower pair = (cert : PairCert) × (lower_finding pair table cert ≡ Yes)
 
-  each_found : (i : ℕ) (pairs : List Pair) (certs : List PairCert) →
-      descent_from table i pairs certs ≡ Descends → All IsFoundLower pairs
-  each_found i [] certs e = All-nil IsFoundLower
-  each_found i (pair ∷ pairs) [] e = cc
-  each_found i (pair ∷ pairs) (cert ∷ certs) e =
-      by_found (lower_finding pair table cert) refl (each_found (i + 1) pairs certs) e where
+  each_found : (whole : Bool) (i : ℕ) (pairs : List Pair) (certs : List PairCert) →
+      descent_in table whole i pairs certs ≡ Descends → All IsFoundLower pairs
+  each_found whole i [] certs e = All-nil IsFoundLower
+  each_found whole i (pair ∷ pairs) [] e = cc
+  each_found whole i (pair ∷ pairs) (cert ∷ certs) e =
+      by_found (lower_finding pair table cert) refl (each_found whole (i + 1) pairs certs) e where
         by_found : (found : Said) → lower_finding pair table cert ≡ found →
-            (descent_from table (i + 1) pairs certs ≡ Descends → All IsFoundLower pairs)
-            → goes_on i found (descent_from table (i + 1) pairs certs) ≡ Descends →
+            (descent_in table whole (i + 1) pairs certs ≡ Descends → All IsFoundLower pairs)
+            → goes_on i found (descent_in table whole (i + 1) pairs certs) ≡ Descends →
             All IsFoundLower (pair ∷ pairs)
         by_found Beyond is rest e = cc
         by_found No is rest e = cc
@@ -263,15 +264,16 @@ module _ (parts : RuleParts) (table : RankTable) (good : bad_rank parts table �
           rule_lowers table a rule has.pairs has.are (all_lower has.pairs has.are has.found)
 
   -- so does the right side of each instance of a list of rules that fit
-  pub instances_descend : (rules : List Rule) (pairs : List Pair) (certs : List PairCert) →
-      AreAllPairs rules pairs → descent_from table 0 pairs certs ≡ Descends
+  pub instances_descend : (rules : List Rule) (whole : Bool) (pairs : List Pair)
+      (certs : List PairCert) → AreAllPairs rules pairs →
+      descent_in table whole 0 pairs certs ≡ Descends
       → All (SidesFit parts) rules
       → (s t : Ground) → Instance rules s t →
       Smaller (weight_of (rank_of table) t) (weight_of (rank_of table) s)
-  instances_descend rules pairs certs are descends fit s t one =
+  instances_descend rules whole pairs certs are descends fit s t one =
       let fits = All-contains (SidesFit parts) rules one.rule fit one.among in
       let less = rule_descends one.rule fits.0 fits.1 one.at one.holds
-      (rule_pairs rules pairs are (each_found 0 pairs certs descends) one.rule one.among) in
+      (rule_pairs rules pairs are (each_found whole 0 pairs certs descends) one.rule one.among) in
       subst (λ u. Smaller (weight_of (rank_of table) u) (weight_of (rank_of table) s))
       (sym one.right)
       (subst (λ u. Smaller (weight_of (rank_of table) (ground_at one.at one.rule.right))
@@ -279,28 +281,27 @@ module _ (parts : RuleParts) (table : RankTable) (good : bad_rank parts table �
 
 -- ---- rules and hypotheses together
 
-made_fit : (parts : RuleParts) (rules : List Rule) → All (IsMade parts) rules →
+pub made_fit : (parts : RuleParts) (rules : List Rule) → All (IsMade parts) rules →
     All (SidesFit parts) rules
 made_fit parts rules made =
     All-weaker (IsMade parts) (SidesFit parts) (λ rule m. (m.left_fits, m.right_fits)) rules made
 
-module _ (parts : RuleParts) (hypotheses : List Rule) (table : RankTable) (pairs : List Pair)
-    (certs : List PairCert)
-    (made : IsWellMade parts) (fit : All (SidesFit parts) hypotheses)
-    (good : bad_rank parts table ≡ None)
-    (are : AreAllPairs (parts.rules ++ hypotheses) pairs)
-    (descends : descent_from table 0 pairs certs ≡ Descends) where
-  together : (s t : Ground) → Instance (parts.rules ++ hypotheses) s t →
+module _ (parts : RuleParts) (rules hypotheses : List Rule) (table : RankTable) (whole : Bool)
+    (pairs : List Pair) (certs : List PairCert)
+    (fit : All (SidesFit parts) (rules ++ hypotheses)) (good : bad_rank parts table ≡ None)
+    (are : AreAllPairs (rules ++ hypotheses) pairs)
+    (descends : descent_in table whole 0 pairs certs ≡ Descends) where
+  together : (s t : Ground) → Instance (rules ++ hypotheses) s t →
       Smaller (weight_of (rank_of table) t) (weight_of (rank_of table) s)
-  together = instances_descend parts table good (parts.rules ++ hypotheses) pairs certs are descends
-      (All-append (SidesFit parts) parts.rules hypotheses (made_fit parts parts.rules made) fit)
+  together =
+      instances_descend parts table good (rules ++ hypotheses) whole pairs certs are descends fit
 
   -- each step by both from a fitting term makes its weight smaller
-  pub steps_descend : Lowers (weight_of (rank_of table)) (Fits (signature parts))
-      (Either (Instance parts.rules) (Instance hypotheses))
-  steps_descend =
+  pub both_descend : Lowers (weight_of (rank_of table)) (Fits (signature parts))
+      (Either (Instance rules) (Instance hypotheses))
+  both_descend =
       let inside = Fits (signature parts) in
       let inner = Fits-inner (signature parts) in
       lowers_under_frames (rank_of table) inside
-      (Either (Instance parts.rules) (Instance hypotheses)) inner
-      (λ s t fits one. together s t ((of_either_list parts.rules hypotheses s t).1 one))
+      (Either (Instance rules) (Instance hypotheses)) inner
+      (λ s t fits one. together s t ((of_either_list rules hypotheses s t).1 one))

@@ -1,5 +1,6 @@
 -- The parts of a right side, walked from outside to what it has in common with the left side.
-use Rattle.std.proofs.Common.{◌≡◌, ◌∙◌, ap, sym, subst, refl, arith, ℕ, zero, suc, ◌+◌, ◌-◌, ◌<◌, Option, Some, None, List, [], ◌∷◌, ◌++◌, append_assoc}
+use Rattle.std.proofs.Common.{◌≡◌, ◌∙◌, ap, sym, subst, refl, arith, ℕ, zero, suc, ◌-◌, ◌<◌, ◌==◌, true, false, Option, Some, None, List, [], ◌∷◌, ◌++◌, append_assoc, length}
+use Rattle.std.proofs.lemmas.Bool.{eqb-true, false≢true}
 use Rattle.std.proofs.lemmas.List.{append-nil, map-append}
 use Rattle.std.proofs.lemmas.Option.{none-some, same_Some}
 use Rattle.rx_plain.proofs.Naturals.{one_more}
@@ -219,3 +220,19 @@ module _ (left : Term) where
   all_ended right end done none last deep no_call before =
       subst (AreParts left right) (append-nil (outer_parts (depth_of right) right) ∙ sym before)
       (all_over right end [] none last deep (result_end end (form end) deep no_call))
+
+-- ---- parts as the code borrows them
+
+-- where none are borrowed there are none, and else there are some
+pub no_lents : (made borrowed : List Application) → borrowed ≡ made → (length borrowed == 0) ≡ true →
+    all_lent made ≡ []
+no_lents made [] same e = ap all_lent (sym same)
+no_lents made (a ∷ rest) same e =
+    let no : length (a ∷ rest) ≡ 0 = eqb-true (length (a ∷ rest)) 0 e in
+    absurd (omega (arith, no))
+
+pub some_lents : (made borrowed : List Application) → borrowed ≡ made → (length borrowed == 0) ≡
+    false → all_lent made ≡ [] → ⊥
+some_lents [] borrowed same e none =
+    false≢true (sym e ∙ ap (λ (bs : List Application). length bs == 0) same)
+some_lents (a ∷ rest) borrowed same e none = cc

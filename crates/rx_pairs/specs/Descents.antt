@@ -1,7 +1,9 @@
 -- What the answers to calls say of the ranks and of the descent.
-use Rattle.std.specs.Prelude.{◌≡◌, ℕ, drop, List, Option, Some, None, Result, Ok, Err}
-use Rattle.rx_pairs.specs.Lowering.{Descends, Descent, NotLower, PassesLimits, descent_from}
+use Rattle.std.specs.Prelude.{◌≡◌, Bool, ℕ, drop, List, Option, Some, None, Result, Ok, Err}
+use Rattle.rx_pairs.specs.Inside.{descent_in}
+use Rattle.rx_pairs.specs.Lowering.{Descends, Descent, NotLower, PassesLimits}
 use Rattle.rx_pairs.specs.declared.descending.Witness.{Witness}
+use Rattle.rx_pairs.specs.declared.listing.Listing.{Listing}
 use Rattle.rx_pairs.specs.declared.pair.Pair.{Pair}
 use Rattle.rx_pairs.specs.declared.pair_cert.PairCert.{PairCert}
 use Rattle.rx_pairs.specs.declared.pair_end.PairEnd.{PairEnd}
@@ -31,8 +33,12 @@ Leaves rest d (Ok n) = d ≡ rest n
 Leaves rest d (Err e) = Refuses d e
 
 -- the descent from n pairs on
-abbrev pub from_pair : RankTable → List PairCert → List Pair → ℕ → Descent
-from_pair table certs pairs n = descent_from table n pairs (drop n certs)
+abbrev pub from_pair : RankTable → List PairCert → Bool → List Pair → ℕ → Descent
+from_pair table certs whole pairs n = descent_in table whole n pairs (drop n certs)
 
-abbrev pub lent_from : Witness → List Pair → ℕ → Descent
+abbrev pub lent_from : Witness → Bool → List Pair → ℕ → Descent
 lent_from w = from_pair w.table.now w.certs.now
+
+-- the same of pairs that are listed
+abbrev pub lent_listing : Witness → Listing → ℕ → Descent
+lent_listing w l = lent_from w l.whole l.pairs

@@ -3,6 +3,7 @@ pub mod Columns
 pub mod Common
 pub mod Descents
 pub mod Graph
+pub mod Inside
 pub mod Lent
 pub mod Listed
 pub mod Loops

@@ -1,5 +1,5 @@
 -- A pair is lower by a column of the table: the columns before it hold, and it falls.
-use Rattle.std.specs.Prelude.{Bool, ◌&&◌, if◌then◌else◌, ◌+◌, ℕ, zero, suc, nat_le, nat_lt, Some, List, [], ◌∷◌, ◌++◌, length, ℤ}
+use Rattle.std.specs.Prelude.{Bool, ◌&&◌, if◌then◌else◌, ℕ, zero, suc, nat_le, nat_lt, Some, List, [], ◌∷◌, ◌++◌, length, ℤ}
 use Rattle.rx_plain.specs.Formed.{Formed, pure, ◌>>=◌, ◌<$>◌}
 use Rattle.rx_poly.specs.declared.body.Body.{Body}
 use Rattle.rx_cert.specs.Conditions.{conditions, is_shown}
@@ -66,12 +66,3 @@ abbrev pub goes_on : ℕ → Said → Descent → Descent
 goes_on i Beyond rest = PassesLimits i
 goes_on i Yes rest = rest
 goes_on i No rest = NotLower i
-
--- the pairs in order, the first having that number; a pair without a certificate is not lower, and
--- neither is the number of pairs where there are more certificates
-abbrev pub descent_from : RankTable → ℕ → List Pair → List PairCert → Descent
-descent_from table i [] [] = Descends
-descent_from table i [] (cert ∷ certs) = NotLower i
-descent_from table i (pair ∷ pairs) [] = NotLower i
-descent_from table i (pair ∷ pairs) (cert ∷ certs) =
-    goes_on i (lower_finding pair table cert) (descent_from table (i + 1) pairs certs)

@@ -3,6 +3,7 @@
 -- that is also a proper part of the left side.
 use Rattle.std.specs.Prelude.{◌≡◌, true, false, ℕ, suc, Some, List, [], ◌∷◌, ◌++◌, map}
 use Rattle.rx_poly.specs.declared.body.Body.{Body}
+use Rattle.rx_row.specs.declared.row.Row.{Row}
 use Rattle.rx_term.specs.Fitting.{term_fits}
 use Rattle.rx_term.specs.Stacks.{suffix_at, is_result}
 use Rattle.rx_term.specs.declared.rule.Rule.{Rule}
@@ -41,15 +42,19 @@ pub data AreParts (left : Term) : Term → List Part → Type 0 where
       (IsUnder left (Frame f ps t) → ⊥)
       → AreParts left t rest → AreParts left (Frame f ps t) (part f ps ∷ rest)
 
--- the pair of a rule's left root and a part, under the rule's rows
-abbrev pub pair_of : Rule → Part → Part → Pair
-pair_of rule root right = record {
-  phi = rule.rows;
+-- the pair of a left root and a part, under these rows
+abbrev pub pair_under : List Row → Part → Part → Pair
+pair_under rows root right = record {
+  phi = rows;
   left = root.symbol;
   left_args = root.arguments;
   right = right.symbol;
   right_args = right.arguments;
 }
+
+-- under the rule's rows
+abbrev pub pair_of : Rule → Part → Part → Pair
+pair_of rule = pair_under rule.rows
 
 pub data ArePairs (rule : Rule) : List Pair → Type 0 where
   PairsOf : (root : Part) → IsRoot rule.left root → (parts : List Part) →

@@ -1,10 +1,11 @@
 //! What lower pairs mean: laws, each a function with an empty body.
-ghost use Rattle.std.specs.Prelude.{◌≡◌, ◌↔◌, ◌++◌, ℕ, ℤ, None, true, All, List, length};
+ghost use Rattle.std.specs.Prelude.{◌≡◌, ◌↔◌, ◌++◌, [], ℕ, ℤ, None, Bool, true, All, List, length, map};
 ghost use Rattle.rx_graph.specs.Graph.{IsOver};
 ghost use Rattle.rx_pairs.specs.Graph.{IsLoopPoint};
+ghost use Rattle.rx_pairs.specs.Inside.{bounded, descends_in, descent_in, listing};
 ghost use Rattle.rx_pairs.specs.Listed.{pairs_by, pairs_by_all};
 ghost use Rattle.rx_pairs.specs.Loops.{is_loop_point, rule_edges};
-ghost use Rattle.rx_pairs.specs.Lowering.{Descends, descent_from};
+ghost use Rattle.rx_pairs.specs.Lowering.{Descends};
 ghost use Rattle.rx_pairs.specs.Pairs.{AreAllPairs, ArePairs, HasRoot, SidesFit};
 ghost use Rattle.rx_pairs.specs.Ranks.{bad_rank, rank_of};
 ghost use Rattle.rx_pairs.specs.declared.pair.Pair.{Pair};
@@ -55,21 +56,34 @@ pub fn loop_points_reach_themselves()
         (is_loop_point parts f ≡ true) ↔ IsLoopPoint parts.symbols (rule_edges parts) f }
 {}
 
+/// Where the pairs of rules inside the domains are all listed, these are the pairs of the rules
+/// under the domain of their left root. Without domains they are the pairs of the rules, and all
+/// are listed.
+pub fn pairs_inside_are_pairs_of_bounded_rules()
+    ensures listed { (parts : RuleParts) (rules : List Rule) → All HasRoot rules →
+        (listing parts rules).whole ≡ true →
+        AreAllPairs (map (bounded parts) rules) (listing parts rules).pairs }
+    ensures without { (parts : RuleParts) (rules : List Rule) → parts.domains ≡ [] →
+        listing parts rules ≡ record { pairs = pairs_by_all rules; whole = true } }
+{}
+
 /// Where the table is lawful for the symbols, and all pairs of rules that fit are lower, each
 /// instance of a rule has a smaller weight on its right than on its left. So for a well made set
-/// and hypotheses that fit, each step by both from a fitting term makes its weight smaller.
+/// and hypotheses that fit, all of whose pairs inside the domains are lower, each step from a
+/// fitting term by a rule or hypothesis whose left root meets its domain makes its weight smaller.
 pub fn lower_pairs_lower_weights()
-    ensures instances { (parts : RuleParts) (rules : List Rule) (table : RankTable)
+    ensures instances { (parts : RuleParts) (rules : List Rule) (table : RankTable) (whole : Bool)
         (pairs : List Pair) (certs : List PairCert) →
-        bad_rank parts table ≡ None → AreAllPairs rules pairs → descent_from table 0 pairs certs ≡
-        Descends →
+        bad_rank parts table ≡ None → AreAllPairs rules pairs →
+        descent_in table whole 0 pairs certs ≡ Descends →
         All (SidesFit parts) rules → (s t : Ground) → Instance rules s t →
         Smaller (weight_of (rank_of table) t) (weight_of (rank_of table) s) }
     ensures steps { (parts : RuleParts) (hypotheses : List Rule) (table : RankTable)
-        (pairs : List Pair) (certs : List PairCert) →
-        IsWellMade parts → All (SidesFit parts) hypotheses → bad_rank parts table ≡ None →
-        AreAllPairs (parts.rules ++ hypotheses) pairs → descent_from table 0 pairs certs ≡
-        Descends →
+        (certs : List PairCert) →
+        IsWellMade parts → All HasRoot hypotheses → All (SidesFit parts) hypotheses →
+        bad_rank parts table ≡ None →
+        descends_in parts (parts.rules ++ hypotheses) table certs ≡ Descends →
         Lowers (weight_of (rank_of table)) (Fits (signature parts))
-        (Either (Instance parts.rules) (Instance hypotheses)) }
+        (Either (Instance (map (bounded parts) parts.rules))
+        (Instance (map (bounded parts) hypotheses))) }
 {}

@@ -7,6 +7,7 @@ mod common;
 mod descending;
 mod graph;
 mod laws;
+mod listing;
 mod loops;
 mod lower;
 mod pair;
@@ -21,14 +22,16 @@ pub use descending::decreases;
 pub use graph::{graph_of, is_loop_point};
 pub use laws::{
     loop_points_reach_themselves, lower_pairs_lower_weights, pairs_are_listed,
-    rules_have_one_list_of_pairs, well_made_rules_have_roots,
+    pairs_inside_are_pairs_of_bounded_rules, rules_have_one_list_of_pairs,
+    well_made_rules_have_roots,
 };
+pub use listing::{Listing, listed_pairs};
 pub use loops::{Loops, loops_of};
 pub use lower::is_lower;
 pub use pair::Pair;
 pub use pair_cert::PairCert;
 pub use pair_end::PairEnd;
-pub use pairs::{all_pairs, have_roots, pairs_of};
+pub use pairs::{all_pairs, have_roots, pairs_in, pairs_of};
 pub use rx_plain::NoMemory;
 pub use rx_poly::PolyEnd;
 pub use table::{RankTable, bad_ranks};

@@ -7,7 +7,8 @@ use rx_term::Sym;
 /// The root of a rule's left side against one frame, or the call, of its right side.
 #[derive(Debug, Drop)]
 pub struct Pair {
-    /// The rows of the rule.
+    /// The rows of the rule, and behind them those of its left root's domain where it is made
+    /// inside the domains.
     pub phi: Constraint,
     /// The symbol on the left.
     pub left: Sym,

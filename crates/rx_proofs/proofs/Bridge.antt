@@ -2,7 +2,7 @@
 use Rattle.std.proofs.Common.{◌≡◌, ℕ, Bool, true, false, if◌then◌else◌, Option, Some, None, Ok, Err, List, [], ◌∷◌, ◌++◌, refl, sym, ap, subst, ◌∙◌, ℤ}
 use Rattle.std.specs.Prelude.{◌&&◌, nat_eq, nat_le, nat_lt, not, slice_get}
 use Rattle.std.proofs.lemmas.Bool.{and_parts, eqb-true}
-use Rattle.std.proofs.lemmas.List.Elements.{All-head}
+use Rattle.std.proofs.lemmas.List.Elements.{All-head, All-tail}
 use Rattle.rx_plain.specs.Formed.{Formed}
 use Rattle.rx_poly.specs.declared.body.Body.{Body}
 use Rattle.rx_cert.specs.declared.cert.Cert.{Cert}
@@ -10,6 +10,7 @@ use Rattle.rx_row.specs.Holds.{AllHold}
 use Rattle.rx_row.specs.Variables.{row_bound}
 use Rattle.rx_row.specs.declared.row.Row.{Row}
 use Rattle.rx_term.specs.Bounds.{equation_bound}
+use Rattle.rx_term.specs.Domains.{inside_of}
 use Rattle.rx_term.specs.Fitting.{term_fits}
 use Rattle.rx_term.specs.Meaning.{redex_of}
 use Rattle.rx_term.specs.Shapes.{shape_of}
@@ -26,7 +27,7 @@ use Rattle.rx_term.proofs.RuleLaws.{known_shape}
 use Rattle.rx_inference.specs.Forming.{Forming, found_or, limited, provided, ◌>>=◌}
 use Rattle.rx_inference.specs.Judging.{Judgement, Shown, Fault, certificates, first_rows, given_to, judged}
 use Rattle.rx_inference.specs.Kinds.{are_common, formed_on}
-use Rattle.rx_inference.specs.Making.{decomposed_by, different_by, equal_by, expanded_by_all, generalised_by, hypothesis_with, postulated_by, resulting_by, simplified_by, split_by, used_by}
+use Rattle.rx_inference.specs.Making.{decomposed_by, different_by, equal_by, expanded_by_all, generalised_by, hypothesis_with, instance_rows, postulated_by, resulting_by, simplified_by, split_by, used_by}
 use Rattle.rx_inference.specs.Pieces.{TopFrame, asking, have_one_shape, is_equation, is_substitution, side_of, top_frame, top_frame_level, variable_limit}
 use Rattle.rx_inference.specs.States.{State, applied, carried_out, taken, taken_if}
 use Rattle.rx_inference.specs.declared.form_end.FormEnd.{FormEnd}
@@ -128,6 +129,10 @@ module _ (parts : RuleParts) (hypotheses : List Rule) (goal : Equation) (f : For
       (shown_follow goal.rows (first_rows goals) (group ∷ []) certs
       (subst (ShownBy certs) (sym is) shown))
 
+  -- the rows of a group follow from those that it is given
+  abbrev Led : List Row → List Row → Group → Type 0
+  Led old new g = Follow (given_to old new g.under) g.rows
+
   simplified_makes : (side : Side) (number : ℕ) (certs : List Cert) →
       formed_on parts goal hypotheses (step.Simplify side number certs) ≡ Ok f → ShownBy certs f →
       MakesIt f
@@ -205,17 +210,30 @@ module _ (parts : RuleParts) (hypotheses : List Rule) (goal : Equation) (f : For
       in
       let more = and_parts (is_substitution ws) (lefts && rights) some_.1 in
       let shapes = and_parts lefts rights more.1 in
-      let is = limited_back (generalised_by goal new ws) f limits in
+      let is = limited_back (generalised_by parts goal new ws) f limits in
+      let rows = (instance_rows ws new goal).form in
+      let inside = (inside_of parts new).form in
+      let first : Group = record { under = under.Goal; rows = rows } in
+      let second : Group = record { under = under.New; rows = inside } in
+      let all = shown_follow goal.rows new.rows (first ∷ second ∷ []) certs
+      (subst (ShownBy certs) (sym is) shown) in
       subst MakesIt is (Generalised new ws (equation_fits parts new some_.0)
       (one_shape new.left goal.left shapes.0) (one_shape new.right goal.right shapes.1)
-      (asked_follow _ _ certs is shown))
+      (All-head (Led goal.rows new.rows) first (second ∷ []) all)
+      (All-head (Led goal.rows new.rows) second []
+      (All-tail (Led goal.rows new.rows) first (second ∷ []) all)))
 
   postulated_makes : (new : Equation) (certs : List Cert) → formed_on parts goal hypotheses
-      (step.Postulate new.left new.right new.rows certs) ≡ Ok f → MakesIt f
-  postulated_makes new certs e =
-      let (test, rest) = provided_back (is_equation parts new) _ f e in
-      let is : postulated_by goal new ≡ f = cc in
-      subst MakesIt is (Postulated new (equation_fits parts new test))
+      (step.Postulate new.left new.right new.rows certs) ≡ Ok f → ShownBy certs f → MakesIt f
+  postulated_makes new certs e shown =
+      let (test, limits) = provided_back (is_equation parts new) _ f e in
+      let is = limited_back (postulated_by parts goal new) f limits in
+      let inside = (inside_of parts new).form in
+      let group : Group = record { under = under.New; rows = inside } in
+      subst MakesIt is (Postulated new (equation_fits parts new test)
+      (All-head (Led goal.rows new.rows) group []
+      (shown_follow goal.rows new.rows (group ∷ []) certs
+      (subst (ShownBy certs) (sym is) shown))))
 
   split_makes : (row : Row) → formed_on parts goal hypotheses (step.Split row) ≡ Ok f → MakesIt f
   split_makes row e =
@@ -274,7 +292,7 @@ module _ (parts : RuleParts) (hypotheses : List Rule) (goal : Equation) (f : For
   formed_makes (step.Generalise left right rows ws certs) e shown =
       generalised_makes (record { left = left; right = right; rows = rows }) ws certs e shown
   formed_makes (step.Postulate left right rows certs) e shown =
-      postulated_makes (record { left = left; right = right; rows = rows }) certs e
+      postulated_makes (record { left = left; right = right; rows = rows }) certs e shown
   formed_makes (step.Split row) e shown = split_makes row e
   formed_makes (step.Decompose certs) e shown = decomposed_makes certs e shown
   formed_makes (step.Results left right certs) e shown = results_make left right certs e shown

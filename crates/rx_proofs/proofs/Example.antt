@@ -1,11 +1,12 @@
 -- The example is a proof: its run, its cover trees, and its rank table.
-use Rattle.std.proofs.Common.{◌≡◌, ℕ, true, if◌then◌else◌, Option, Some, None, Ok, List, [], ◌∷◌, length, refl, sym, ap, ◌∙◌, ℤ, arith, All}
+use Rattle.std.proofs.Common.{◌≡◌, ℕ, true, ◌||◌, if◌then◌else◌, Option, Some, None, Ok, List, [], ◌∷◌, length, refl, ap, ◌∙◌, ℤ, arith, All}
 use Rattle.std.proofs.lemmas.List.Elements.{All-cons, All-nil}
 use Rattle.std.specs.Prelude.{int_lt, nat_lt, not, pos}
 use Rattle.std.specs.List.{list_all}
+use Rattle.std.specs.Option.{option_map_or}
 use Rattle.std.proofs.lemmas.Bool.{and_from}
 use Rattle.std.specs.declared.cmp.Ordering.TheVariants.{Equal as Same}
-use Rattle.rx_plain.specs.Formed.{Formed}
+use Rattle.rx_plain.specs.Formed.{Formed, pure}
 use Rattle.rx_poly.specs.Constants.{number, variable}
 use Rattle.rx_poly.specs.Limits.{of_atoms, of_terms, body_difference}
 use Rattle.rx_poly.specs.Order.{mono_cmp}
@@ -31,22 +32,27 @@ use Rattle.rx_term.specs.Shapes as shape
 use Rattle.rx_term.specs.WellMade.{IsMade, IsWellMade, OfPoint, width}
 use Rattle.rx_term.specs.declared.term.Sym.{Sym}
 use Rattle.rx_term.specs.declared.term.Term.TheVariants.{Call, Fail}
-use Rattle.rx_term.specs.Stacks.{suffix_at, under_frame}
-use Rattle.rx_term.specs.declared.term.Term.{Term, Term-F}
-use Rattle.rx_term.specs.declared.term.Term.TheVariants.{outs-Call}
+use Rattle.rx_term.specs.Domains.{rows_at}
+use Rattle.rx_term.specs.declared.rule.Rule.{Rule}
+use Rattle.rx_term.specs.declared.term.Term.{Term}
+use Rattle.rx_term.specs.declared.term.Term.TheVariants.{outs-Call, outs-Fail}
 use Rattle.rx_term.proofs.BoundLaws.{bound-Call}
-use Rattle.rx_term.proofs.Equations.{arguments-Call, arguments-Fail, below-Fail, fits-Call, fits-Fail, subst_term-Call, subst_term-Fail, redex-Call, shape-Call, shape-Fail, within-Call, within-Fail}
+use Rattle.rx_term.proofs.Collecting.{inside-Call}
+use Rattle.rx_term.proofs.Equations.{arguments-Call, arguments-Fail, below-Fail, depth-Call, depth-Fail, fits-Call, fits-Fail, subst_term-Call, subst_term-Fail, redex-Call, shape-Call, shape-Fail, within-Call, within-Fail}
 use Rattle.rx_cover.specs.Covering.{Covers, covering, goes_on}
 use Rattle.rx_cover.specs.Trees.{tree_finding}
 use Rattle.rx_cover.specs.declared.cover_tree.CoverTree.TheVariants.{Use}
 use Rattle.rx_cover.proofs.Equations.{finding_use}
 use Rattle.rx_pairs.specs.Columns.{falls_rows}
-use Rattle.rx_pairs.specs.Lowering.{Descends, descent_from, lower_finding, rows_finding, goes_on as descending}
-use Rattle.rx_pairs.specs.Pairs as pairs
-use Rattle.rx_pairs.specs.Pairs.{AreAllPairs, ArePairs, AtCall, AtFail, IsUnder, OfCall, PairsOf, pair_of, part}
+use Rattle.rx_pairs.specs.Inside.{descends_in, descent_in, is_empty as has_none, listed_before, listing, pairs_in, root_rows, with_more_rows}
+use Rattle.rx_pairs.specs.Listed.{pairs_by, root_part_level, root_part_of}
+use Rattle.rx_pairs.specs.Lowering.{Descends, lower_finding, rows_finding, goes_on as descending}
+use Rattle.rx_pairs.specs.Pairs.{Part, pair_of, part}
 use Rattle.rx_pairs.specs.Ranks.{bad_rank}
+use Rattle.rx_pairs.specs.declared.listing.Listing.{Listing}
 use Rattle.rx_pairs.specs.declared.pair.Pair.{Pair}
 use Rattle.rx_inference.specs.Kinds.{formed_on}
+use Rattle.rx_inference.specs.Making.{asking_before}
 use Rattle.rx_inference.specs.Pieces.{asking, asking_nothing}
 use Rattle.rx_inference.specs.States.{applied}
 use Rattle.rx_inference.specs.declared.step.Delete.TheVariants.{Equal}
@@ -54,7 +60,7 @@ use Rattle.rx_inference.specs.declared.step.Side.TheVariants.{Left, Right}
 use Rattle.rx_inference.specs.declared.step.Step.TheVariants.{Simplify, Expand, Delete, Postulate}
 use Rattle.rx_inference.proofs.FormingLaws.{shown_taken}
 use Rattle.rx_proofs.specs.Example.{f, g, fails, example, equal, alike, hypothesis, by_hypothesis, knowing, table}
-use Rattle.rx_proofs.specs.Runs.{IsProof, Run, NoStep, OneMore, start, finished}
+use Rattle.rx_proofs.specs.Runs.{IsProof, NoDomains, Run, NoStep, OneMore, start, finished}
 
 -- ---- the rules
 
@@ -149,36 +155,71 @@ evident = both_evident (Ge (number (pos 1))) (Ge (of_terms [])) number_evident z
 lower : lower_finding the_pair table (record { column = 1; certs = [] }) ≡ Yes
 lower = ap (λ (rows : Formed (List Row)). rows_finding the_pair rows []) falls ∙ ap is_shown evident
 
-descends : descent_from table 0 (the_pair ∷ []) (record { column = 1; certs = [] } ∷ []) ≡ Descends
-descends = ap (λ found. descending 0 found Descends) lower
-
 over_nothing : (n : ℕ) (k : ℤ) → list_all (uses_below n) (number k ∷ []) ≡ true
 over_nothing n k = and_from (uses_below n (number k)) true (passes-number (λ v. nat_lt v n) k) refl
 
 table_lawful : bad_rank example table ≡ None
 table_lawful = rw (over_nothing 0 (pos 1), over_nothing 0 (pos 0)) refl
 
-not_under : IsUnder (Call f []) (Call g []) → ⊥
-not_under (k, stands) =
-    let no_ : ◌≡◌ {A = Option Term} None (Some (Call g [])) =
-    sym (ap (λ (x : Term-F Term). under_frame x (suffix_at k)) (outs-Call f [])) ∙ stands in
-    absurd cc
+-- ---- pairs
 
-pairs_of_fails : (s : Sym) → ArePairs (fails s) []
-pairs_of_fails s = PairsOf (part s []) (OfCall s []) [] (AtFail 1)
+-- a point that fails has none
+no_pairs : (s : Sym) (rows : List Row) →
+    pairs_by (record { left = Call s []; right = Fail 1; rows = rows }) ≡ []
+no_pairs s rows = rw (outs-Call s [], depth-Call s [], depth-Fail 1, outs-Fail 1) refl
 
-all_pairs : AreAllPairs (fails f ∷ fails g ∷ hypothesis ∷ []) (the_pair ∷ [])
-all_pairs =
-    pairs.OneMore (fails f) (fails g ∷ hypothesis ∷ []) [] (the_pair ∷ []) (pairs_of_fails f)
-    (pairs.OneMore (fails g) (hypothesis ∷ []) [] (the_pair ∷ []) (pairs_of_fails g)
-    (pairs.OneMore hypothesis [] (the_pair ∷ []) []
-    (PairsOf (part f []) (OfCall f []) (part g [] ∷ []) (AtCall g [] not_under)) pairs.NoRules))
+one_pair : pairs_by hypothesis ≡ the_pair ∷ []
+one_pair = rw (outs-Call f [], depth-Call f [], depth-Call g [], outs-Call g []) refl
+
+no_root : (s : Sym) → root_part_of (Call s []) ≡ Some (part s [])
+no_root s = ap root_part_level (outs-Call s [])
+
+-- no symbol has a domain
+no_rows : (rule : Rule) (s : Sym) → rule.left ≡ Call s [] → root_rows example rule ≡ pure []
+no_rows rule s is =
+    ap (λ (t : Term). option_map_or (λ (r : Part). rows_at example r.symbol.0 r.arguments)
+    (root_part_of t) (pure [])) is
+    ∙ ap (λ (o : Option Part). option_map_or (λ (r : Part).
+    rows_at example r.symbol.0 r.arguments) o (pure [])) (no_root s)
+
+fails_in : (s : Sym) → pairs_in example (fails s) ≡ record { form = []; within = true }
+fails_in s = λ i. record {
+  form = no_pairs s (root_rows example (fails s)).form i;
+  within = has_none (no_pairs s [] i) || (root_rows example (fails s)).within;
+}
+
+hypothesis_in : pairs_in example hypothesis ≡ record { form = the_pair ∷ []; within = true }
+hypothesis_in =
+    ap (λ (rows : Formed (List Row)). record {
+      form = pairs_by (with_more_rows hypothesis rows.form);
+      within = has_none (pairs_by hypothesis) || rows.within;
+    }) (no_rows hypothesis f refl) ∙
+    ap (λ (pairs : List Pair). record { form = pairs; within = has_none pairs || true }) one_pair
+
+listed : listing example (fails f ∷ fails g ∷ hypothesis ∷ []) ≡
+    record { pairs = the_pair ∷ []; whole = true }
+listed = λ i. listed_before (fails_in f i) (listed_before (fails_in g i)
+    (listed_before (hypothesis_in i) (record { pairs = []; whole = true })))
+
+descends : descends_in example (fails f ∷ fails g ∷ hypothesis ∷ []) table
+    (record { column = 1; certs = [] } ∷ []) ≡ Descends
+descends =
+    ap (λ (l : Listing). descent_in table l.whole 0 l.pairs (record { column = 1; certs = [] } ∷ []))
+    listed ∙ ap (λ found. descending 0 found Descends) lower
 
 -- ---- the run
 
 postulates : formed_on example alike [] (Postulate (Call f []) (Call g []) [] []) ≡
-    Ok (asking_nothing (alike ∷ alike ∷ []) [])
-postulates = rw (f_fits, g_fits, bound-Call f [], bound-Call g []) refl
+    Ok (asking_before [] alike alike)
+postulates =
+    rw (
+      f_fits,
+      g_fits,
+      bound-Call f [],
+      bound-Call g [],
+      inside-Call example f [],
+      inside-Call example g [],
+    ) refl
 
 expands : formed_on example alike [] (Expand Left true) ≡
     Ok (asking_nothing (equal (Fail 1) (Call g []) ∷ []) (hypothesis ∷ []))
@@ -229,7 +270,7 @@ example_run =
     OneMore (start alike) (record { goals = alike ∷ alike ∷ []; hypotheses = [] })
     (Postulate (Call f []) (Call g []) [] [])
     (shown_taken example (start alike) (Postulate (Call f []) (Call g []) [] [])
-    (asking_nothing (alike ∷ alike ∷ []) []) postulates refl)
+    (asking_before [] alike alike) postulates refl)
     (OneMore (record { goals = alike ∷ alike ∷ []; hypotheses = [] })
     (record { goals = equal (Fail 1) (Call g []) ∷ alike ∷ []; hypotheses = hypothesis ∷ [] })
     (Expand Left true)
@@ -267,13 +308,13 @@ example_run =
 pub example_proof : IsProof example alike (hypothesis ∷ []) table
 example_proof = record {
   made = example_made;
+  domains = refl;
   fits = record { left = f_fits; right = g_fits };
+  kept = NoDomains refl;
   trees = (Use 0 [] ∷ []) ∷ (Use 1 [] ∷ []) ∷ [];
   covers = example_covered;
   run = example_run;
   lawful = table_lawful;
-  pairs = the_pair ∷ [];
-  all_pairs = all_pairs;
   certs = record { column = 1; certs = [] } ∷ [];
   descends = descends;
 }

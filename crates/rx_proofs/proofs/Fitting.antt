@@ -114,7 +114,7 @@ module _ (parts : RuleParts) (made : IsWellMade parts) where
         ]
       ]
 
-  results_fit : (v : ℕ) (result : Term) → Contains (results_of parts.fails v) result →
+  pub results_fit : (v : ℕ) (result : Term) → Contains (results_of parts.fails v) result →
       term_fits parts result ≡ true
   results_fit v result among =
       elim (first_or_other (Return (variable v)) (failures parts.fails) result among) [
@@ -148,10 +148,10 @@ module _ (parts : RuleParts) (made : IsWellMade parts) where
         (λ d among. record { left = fits.left; right = fits.right }),
     All-nil (SidesFit parts),
   )
-  made_fit hypotheses goal new kept (making.Generalised next ws next_fits left right follows) fits
-      rules =
+  made_fit hypotheses goal new kept (making.Generalised next ws next_fits left right follows
+      inside) fits rules =
       (one next_fits, All-nil (SidesFit parts))
-  made_fit hypotheses goal new kept (making.Postulated next next_fits) fits rules =
+  made_fit hypotheses goal new kept (making.Postulated next next_fits inside) fits rules =
       (All-cons (IsFitting parts) next (goal ∷ []) next_fits (one fits), All-nil (SidesFit parts))
   made_fit hypotheses goal new kept (making.SplitBy row) fits rules = (
     All-cons (IsFitting parts) (with_rows goal (row ∷ []))

@@ -8,6 +8,7 @@ use Rattle.rx_row.specs.Substitution.{subst_rows}
 use Rattle.rx_row.specs.declared.row.Row.{Row}
 use Rattle.rx_term.specs.Bounds.{equation_bound}
 use Rattle.rx_term.specs.Differences.{term_differences}
+use Rattle.rx_term.specs.Domains.{inside_of}
 use Rattle.rx_term.specs.Meaning.{matched, redex_of}
 use Rattle.rx_term.specs.Paired.{rules_of_shape}
 use Rattle.rx_term.specs.Shapes.{shape_of}
@@ -57,8 +58,10 @@ pub data Makes (parts : RuleParts) (hypotheses : List Rule) (goal : Equation) : 
       shape_of goal.left
       → shape_of new.right ≡ shape_of goal.right →
       Follow goal.rows (instance_rows ws new goal).form →
+      Follow new.rows (inside_of parts new).form →
       Makes parts hypotheses goal (new ∷ []) []
   Postulated : (new : Equation) → IsFitting parts new →
+      Follow new.rows (inside_of parts new).form →
       Makes parts hypotheses goal (new ∷ goal ∷ []) []
   SplitBy : (row : Row) → Makes parts hypotheses goal
       (with_rows goal (row ∷ []) ∷ with_rows goal (negation row ∷ []) ∷ []) []

@@ -56,9 +56,9 @@ module _ (parts : RuleParts) where
   made_rooted hypotheses goal _ _ (making.Contradictory none) = All-nil HasRoot
   made_rooted hypotheses goal _ _ (making.Equal shape follows) = All-nil HasRoot
   made_rooted hypotheses goal _ _ (making.Apart shape) = All-nil HasRoot
-  made_rooted hypotheses goal _ _ (making.Generalised next ws fits left right follows) =
+  made_rooted hypotheses goal _ _ (making.Generalised next ws fits left right follows inside) =
       All-nil HasRoot
-  made_rooted hypotheses goal _ _ (making.Postulated next fits) = All-nil HasRoot
+  made_rooted hypotheses goal _ _ (making.Postulated next fits inside) = All-nil HasRoot
   made_rooted hypotheses goal _ _ (making.SplitBy row) = All-nil HasRoot
   made_rooted hypotheses goal _ _ (making.Decomposed f g ps qs s t left right same follows) =
       All-nil HasRoot

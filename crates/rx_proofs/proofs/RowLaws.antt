@@ -1,7 +1,7 @@
 -- Rows that are added to others, and rows of equal polynomials.
 use Rattle.std.proofs.Common.{◌≡◌, ℕ, List, [], ◌∷◌, length, refl, ℤ, pos, arith}
 use Rattle.std.proofs.lemmas.Int.{ints}
-use Rattle.std.proofs.lemmas.List.Elements.{All-head, All-tail}
+use Rattle.std.proofs.lemmas.List.Elements.{All-cons, All-head, All-nil, All-tail}
 use Rattle.rx_poly.specs.Limits.{body_difference}
 use Rattle.rx_poly.specs.Value.{value}
 use Rattle.rx_poly.specs.declared.body.Body.{Body}
@@ -21,6 +21,15 @@ all_pushed-hold a rows [] one two = one
 all_pushed-hold a rows (r ∷ rs) one two =
     all_pushed-hold a (pushed rows r) rs ((all_hold_pushed a rows r).1
     (one, All-head (RowHolds a) r rs two)) (All-tail (RowHolds a) r rs two)
+
+-- and both hold where those do
+pub all_pushed-parts : (a : ℕ → ℤ) (rows more : List Row) → AllHold a (all_pushed rows more) →
+    AllHold a rows × AllHold a more
+all_pushed-parts a rows [] holds = (holds, All-nil (RowHolds a))
+all_pushed-parts a rows (r ∷ rs) holds =
+    let later = all_pushed-parts a (pushed rows r) rs holds in
+    let first = (all_hold_pushed a rows r).0 later.0 in
+    (first.0, All-cons (RowHolds a) r rs first.1 later.1)
 
 zero_difference : (a : ℕ → ℤ) (p q : Body) → value a (body_difference p q) ≡ pos 0 → value a p ≡
     value a q

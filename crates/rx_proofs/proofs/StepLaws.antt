@@ -24,8 +24,9 @@ use Rattle.rx_rewriting.specs.Premises.{EndsInside}
 use Rattle.rx_rewriting.proofs.Chains.{Reaches-step, Reaches-by_rule, Step-by_rule, Step-by_hypothesis, Joinable-same, Joinable-sym, Joinable-before_left, Joinable-before_right}
 use Rattle.rx_rewriting.proofs.UnderFrames.{Joinable-frame, Reaches-in_context}
 use Rattle.rx_term.specs.Bounds.{equation_bound}
-use Rattle.rx_term.specs.Covered.{IsCovered}
+use Rattle.rx_term.specs.Covered.{IsCoveredOver}
 use Rattle.rx_term.specs.Differences.{term_differences}
+use Rattle.rx_term.specs.Domains.{IsInside, are_domains, root_domains}
 use Rattle.rx_term.specs.Fitting.{is_declared, term_fits}
 use Rattle.rx_term.specs.Meaning.{Instance, ground_at, matched, outer_frames, redex_of, values}
 use Rattle.rx_term.specs.Paired.{rules_of_shape}
@@ -42,7 +43,6 @@ use Rattle.rx_term.specs.declared.term.Term.{Term}
 use Rattle.rx_term.specs.declared.term.Term.TheVariants.{Return, Fail, Frame}
 use Rattle.rx_term.proofs.BoundLaws.{equation_below}
 use Rattle.rx_term.proofs.Equations.{fits-Frame, ground-Frame, ground-Return, ground-Fail}
-use Rattle.rx_term.proofs.FittingLaws.{ground_fits}
 use Rattle.rx_term.proofs.KeepingLaws.{shape_in_term, fits_in_term, fits_after}
 use Rattle.rx_plain.proofs.Kept.{was_there}
 use Rattle.rx_term.proofs.Locality.{hold_too, same_outer}
@@ -50,11 +50,13 @@ use Rattle.rx_term.proofs.MeaningLaws.{ground_in_term}
 use Rattle.rx_term.proofs.RedexLaws.{ground_after, ground_replaced, redex_is}
 use Rattle.rx_term.proofs.RuleLaws.{instance_steps_inside, rule_steps_inside, redex_shape, known_shape}
 use Rattle.rx_term.proofs.ShapeLaws.{aligned, declared_once, same_count, one_ground_term}
+use Rattle.rx_domain.proofs.Inside.{redexes_inside}
 use Rattle.rx_inference.specs.Making.{differing, expanded_by, failures, from_side, instance_rows, results_of, with_result, with_sides}
 use Rattle.rx_inference.specs.Pieces.{all_zero, equal_arguments, equal_lists, other_side, side_of, with_rows, with_side}
 use Rattle.rx_inference.specs.declared.step.Side.{Side}
 use Rattle.rx_inference.specs.declared.step.Side.TheVariants.{Left, Right}
-use Rattle.rx_proofs.specs.Goals.{Inside, Both, IsGood, IsBacked, IsFitting}
+use Rattle.rx_proofs.specs.Goals.{Both, IsGood, IsBacked, IsFitting, IsGoalInside}
+use Rattle.rx_proofs.proofs.InsideTerms.{inside_after}
 use Rattle.rx_proofs.proofs.Lists.{All-parts, passes}
 use Rattle.rx_proofs.proofs.Making.{Follow}
 use Rattle.rx_proofs.proofs.RowLaws.{all_pushed-hold, equal_values}
@@ -62,8 +64,9 @@ use Rattle.rx_proofs.proofs.RowLaws.{all_pushed-hold, equal_values}
 -- what is known of the rules
 pub record Setting (parts : RuleParts) : Type 0 where
   pub made : IsWellMade parts
-  pub covered : IsCovered parts
-  pub ends : (s : Ground) → Inside parts s → EndsInside (Inside parts) (Instance parts.rules) s
+  pub domains : are_domains parts.symbols parts.domains ≡ true
+  pub covered : IsCoveredOver (root_domains parts) parts
+  pub ends : (s : Ground) → IsInside parts s → EndsInside (IsInside parts) (Instance parts.rules) s
 
 -- the redex of a term, by its place
 pub record Placed (t part : Term) : Type 0 where
@@ -121,17 +124,31 @@ bounded_by_bound goal =
     let sides = and_parts (term_uses_below v goal.left) (term_uses_below v goal.right) both.0 in
     record { left = sides.0; right = sides.1; rows = both.1 }
 
+pub side_fits : (parts : RuleParts) (side : Side) (goal : Equation) → IsFitting parts goal →
+    term_fits parts (side_of side goal) ≡ true
+side_fits parts Left goal fits = fits.left
+side_fits parts Right goal fits = fits.right
+
+-- a rule steps the redex of a side
+pub redex_steps : (parts : RuleParts) → IsWellMade parts → (a : ℕ → ℤ) (rule : Rule)
+    (t redex : Term) → Contains parts.rules rule → redex_of t ≡ Some redex
+    → term_fits parts t ≡ true → shape_of rule.left ≡ shape_of redex
+    → AllHold a (subst_rows (matched redex) rule.rows)
+    → Step (Instance parts.rules) (ground_at a t)
+    (ground_at a (replace_redex t (subst_term (matched redex) rule.right)))
+redex_steps parts made a rule t redex among is fits shape holds =
+    let at = placed t redex is in
+    subst (λ u. Step (Instance parts.rules) (ground_at a t) (ground_at a u))
+    (sym (at.replaces (subst_term (matched redex) rule.right)))
+    (rule_steps_inside parts made a rule at.place t redex among at.stands
+    (fits_after parts at.place t redex fits at.stands) shape holds)
+
 module _ (parts : RuleParts) (hypotheses : List Rule) (setting : Setting parts) where
   abbrev R : Relation
   R = Instance parts.rules
 
   abbrev RH : Relation
   RH = Both parts hypotheses
-
-  side_fits : (side : Side) (goal : Equation) → IsFitting parts goal →
-      term_fits parts (side_of side goal) ≡ true
-  side_fits Left goal fits = fits.left
-  side_fits Right goal fits = fits.right
 
   -- a step on a side
   stepped : (side : Side) (goal : Equation) (t : Term) (a : ℕ → ℤ) →
@@ -150,19 +167,6 @@ module _ (parts : RuleParts) (hypotheses : List Rule) (setting : Setting parts) 
   same_rows Left goal t = refl
   same_rows Right goal t = refl
 
-  -- a rule steps the redex of a side
-  redex_steps : (a : ℕ → ℤ) (rule : Rule) (t redex : Term) → Contains parts.rules rule →
-      redex_of t ≡ Some redex → term_fits parts t ≡ true
-      → shape_of rule.left ≡ shape_of redex → AllHold a (subst_rows (matched redex) rule.rows)
-      → Step R (ground_at a t) (ground_at a (replace_redex t
-      (subst_term (matched redex) rule.right)))
-  redex_steps a rule t redex among is fits shape holds =
-      let at = placed t redex is in
-      subst (λ u. Step R (ground_at a t) (ground_at a u))
-      (sym (at.replaces (subst_term (matched redex) rule.right)))
-      (rule_steps_inside parts setting.made a rule at.place t redex among at.stands
-      (fits_after parts at.place t redex fits at.stands) shape holds)
-
   pub simplify_good : (side : Side) (goal : Equation) (rule : Rule) (redex : Term) →
       IsFitting parts goal → Contains parts.rules rule
       → redex_of (side_of side goal) ≡ Some redex → shape_of rule.left ≡ shape_of redex →
@@ -173,8 +177,8 @@ module _ (parts : RuleParts) (hypotheses : List Rule) (setting : Setting parts) 
   simplify_good side goal rule redex fits among is shape follows good a holds =
       let new = replace_redex (side_of side goal) (subst_term (matched redex) rule.right) in
       stepped side goal new a
-      (Step-by_rule R (Instance hypotheses) (redex_steps a rule (side_of side goal) redex among is
-      (side_fits side goal fits) shape (follows a holds)))
+      (Step-by_rule R (Instance hypotheses) (redex_steps parts setting.made a rule (side_of side goal) redex among is
+      (side_fits parts side goal fits) shape (follows a holds)))
       (good a (subst (AllHold a) (sym (same_rows side goal new)) holds))
 
   -- equal polynomials of terms of one shape
@@ -197,7 +201,7 @@ module _ (parts : RuleParts) (hypotheses : List Rule) (setting : Setting parts) 
       let new = replace_at n t (subst_term ws h.right) in
       let both = All-parts (RowHolds a) (equal_arguments part (subst_term ws h.left)).form
       (subst_rows ws h.rows) (follows a holds) in
-      let part_fits = fits_after parts n t part (side_fits side goal fits) stands in
+      let part_fits = fits_after parts n t part (side_fits parts side goal fits) stands in
       let same = equal_grounds part (subst_term ws h.left) a part_fits
       (fits_in_term ws parts h.left ∙ h_fits) (shape ∙ sym (shape_in_term ws h.left)) both.0 in
       stepped side goal new a
@@ -216,19 +220,21 @@ module _ (parts : RuleParts) (hypotheses : List Rule) (setting : Setting parts) 
   -- what expanding a side gives at an assignment: one rule step, and then the goal made for that
   -- rule
   expand_step : (side : Side) (goal : Equation) (redex : Term) → IsFitting parts goal →
-      redex_of (side_of side goal) ≡ Some redex
+      IsGoalInside parts goal → redex_of (side_of side goal) ≡ Some redex
       → All (λ r. IsGood parts hypotheses (for_rule side goal redex r))
       (rules_of_shape (shape_of redex) parts.rules)
       → (a : ℕ → ℤ) → AllHold a goal.rows → (first : Ground) ×
       Step R (ground_at a (side_of side goal)) first ×
       Joinable RH first (ground_at a (other_side side goal))
-  expand_step side goal redex fits is all a holds =
+  expand_step side goal redex fits inside is all a holds =
       let t = side_of side goal in
       let at = placed t redex is in
-      let redex_fits = fits_after parts at.place t redex (side_fits side goal fits) at.stands in
+      let redex_fits = fits_after parts at.place t redex (side_fits parts side goal fits) at.stands in
+      let domain = redexes_inside parts setting.domains redex (redex_is t redex is) a
+      (inside_after parts a at.place t redex at.stands (side_inside side (inside a holds))) in
       let has = setting.covered (shape_of redex)
       (redex_shape parts redex (redex_is t redex is) redex_fits)
-      (updated_assignment a (matched redex)) tt in
+      (updated_assignment a (matched redex)) domain in
       let r = has.rule in
       let good = All-contains (λ q. IsGood parts hypotheses (for_rule side goal redex q))
       (rules_of_shape (shape_of redex) parts.rules) r all has.among in
@@ -236,13 +242,19 @@ module _ (parts : RuleParts) (hypotheses : List Rule) (setting : Setting parts) 
       let new = replace_redex t (subst_term (matched redex) r.right) in
       let test : Rule → Bool = λ q. same_shape (shape_of q.left) (shape_of redex) in (
         ground_at a new,
-        redex_steps a r t redex (was_there test parts.rules r has.among) is
-            (side_fits side goal fits) (known_shape (shape_of r.left) (shape_of redex)
+        redex_steps parts setting.made a r t redex (was_there test parts.rules r has.among) is
+            (side_fits parts side goal fits) (known_shape (shape_of r.left) (shape_of redex)
             (passes test parts.rules r has.among)) instances,
         joined side new r (good a (rows side new r
             (all_pushed-hold a goal.rows (subst_rows (matched redex) r.rows) holds instances))),
       )
     where
+      side_inside : (side : Side) →
+          IsInside parts (ground_at a goal.left) × IsInside parts (ground_at a goal.right) →
+          IsInside parts (ground_at a (side_of side goal))
+      side_inside Left both = both.0
+      side_inside Right both = both.1
+
       rows : (side : Side) (new : Term) (r : Rule) →
           AllHold a (with_rows goal (subst_rows (matched redex) r.rows)).rows →
           AllHold a (with_new side goal redex new r).rows
@@ -257,11 +269,11 @@ module _ (parts : RuleParts) (hypotheses : List Rule) (setting : Setting parts) 
       joined Right new r h = Joinable-sym RH (ground_at a goal.left) (ground_at a new) h
 
   pub expand_good : (side : Side) (goal : Equation) (redex : Term) → IsFitting parts goal →
-      redex_of (side_of side goal) ≡ Some redex
+      IsGoalInside parts goal → redex_of (side_of side goal) ≡ Some redex
       → All (λ r. IsGood parts hypotheses (for_rule side goal redex r))
       (rules_of_shape (shape_of redex) parts.rules) → IsGood parts hypotheses goal
-  expand_good side goal redex fits is all a holds =
-      let (first, step, joined) = expand_step side goal redex fits is all a holds in
+  expand_good side goal redex fits inside is all a holds =
+      let (first, step, joined) = expand_step side goal redex fits inside is all a holds in
       back side (Joinable-before_left RH (ground_at a (side_of side goal)) first
       (ground_at a (other_side side goal))
       (Reaches-step (Step-by_rule R (Instance hypotheses) step)) joined)
@@ -274,11 +286,12 @@ module _ (parts : RuleParts) (hypotheses : List Rule) (setting : Setting parts) 
 
   -- and the hypothesis that is kept is backed
   pub expand_backed : (side : Side) (goal : Equation) (redex : Term) → IsFitting parts goal →
-      redex_of (side_of side goal) ≡ Some redex
+      IsGoalInside parts goal → redex_of (side_of side goal) ≡ Some redex
       → All (λ r. IsGood parts hypotheses (for_rule side goal redex r))
       (rules_of_shape (shape_of redex) parts.rules) →
       IsBacked parts hypotheses (from_side side goal)
-  expand_backed side goal redex fits is all = expand_step side goal redex fits is all
+  expand_backed side goal redex fits inside is all =
+      expand_step side goal redex fits inside is all
 
   pub absurd_good : (goal : Equation) → ((a : ℕ → ℤ) → AllHold a goal.rows → ⊥) →
       IsGood parts hypotheses goal
@@ -401,11 +414,11 @@ module _ (parts : RuleParts) (hypotheses : List Rule) (setting : Setting parts) 
   good_for goal m n result = IsGood parts hypotheses (with_result goal m n result)
 
   pub results_good : (goal : Equation) (m n : ℕ) (s t : Term) → IsFitting parts goal →
-      suffix_at m goal.left ≡ Some s → suffix_at n goal.right ≡ Some t → shape_of s ≡ shape_of t
+      IsGoalInside parts goal → suffix_at m goal.left ≡ Some s → suffix_at n goal.right ≡ Some t → shape_of s ≡ shape_of t
       → Follow goal.rows (equal_arguments s t).form
       → All (λ result. IsGood parts hypotheses (with_result goal m n result))
       (results_of parts.fails (equation_bound goal)) → IsGood parts hypotheses goal
-  results_good goal m n s t fits at_s at_t shape follows all a holds =
+  results_good goal m n s t fits inside at_s at_t shape follows all a holds =
       go ends.end ends.reached ends.is_result ends.is_inside
     where
       bounded : Bounded goal
@@ -417,8 +430,9 @@ module _ (parts : RuleParts) (hypotheses : List Rule) (setting : Setting parts) 
       t_fits : term_fits parts t ≡ true
       t_fits = fits_after parts n goal.right t fits.right at_t
 
-      ends : EndsInside (Inside parts) R (ground_at a s)
-      ends = setting.ends (ground_at a s) (ground_fits parts a s s_fits)
+      ends : EndsInside (IsInside parts) R (ground_at a s)
+      ends = setting.ends (ground_at a s)
+          (inside_after parts a m goal.left s at_s (inside a holds).0)
 
       same : ground_at a s ≡ ground_at a t
       same = equal_grounds s t a s_fits t_fits shape (follows a holds)
@@ -449,9 +463,9 @@ module _ (parts : RuleParts) (hypotheses : List Rule) (setting : Setting parts) 
           (in_context (outer_frames a m goal.left) g)
           (in_context (outer_frames a n goal.right) g) right joined)
 
-      go : (g : Ground) → Reaches R (ground_at a s) g → IsResult g → Inside parts g →
+      go : (g : Ground) → Reaches R (ground_at a s) g → IsResult g → IsInside parts g →
           Joinable RH (ground_at a goal.left) (ground_at a goal.right)
-      go (stack.Return k) reached result inside =
+      go (stack.Return k) reached result ends_in =
           let v = equation_bound goal in
           let b = put a v k in
           let agree = put_other a v k in
@@ -471,11 +485,11 @@ module _ (parts : RuleParts) (hypotheses : List Rule) (setting : Setting parts) 
           Joinable RH u (in_context (outer_frames a n goal.right) (stack.Return k))) left
           (subst (Joinable RH (ground_at b (replace_at m goal.left (Return (variable v))))) right
           good))
-      go (stack.Fail c) reached result inside =
+      go (stack.Fail c) reached result ends_in =
           let rest = All-tail (good_for goal m n) (Return (variable (equation_bound goal)))
           (failures parts.fails) all in
           let good = All-contains (good_for goal m n) (failures parts.fails) (Fail c) rest
-          (failure_stands parts.fails c inside.0 inside.1) a holds in
+          (failure_stands parts.fails c ends_in.0.0 ends_in.0.1) a holds in
           let left = ground_replaced a m goal.left (Fail c) ∙
           ap (in_context (outer_frames a m goal.left)) (ground-Fail a c) in
           let right = ground_replaced a n goal.right (Fail c) ∙
@@ -483,5 +497,5 @@ module _ (parts : RuleParts) (hypotheses : List Rule) (setting : Setting parts) 
           led (stack.Fail c) reached (subst (λ u.
           Joinable RH u (in_context (outer_frames a n goal.right) (stack.Fail c))) left
           (subst (Joinable RH (ground_at a (replace_at m goal.left (Fail c)))) right good))
-      go (stack.Call f xs) reached result inside = absurd result
-      go (stack.Frame f xs g) reached result inside = absurd result
+      go (stack.Call f xs) reached result ends_in = absurd result
+      go (stack.Frame f xs g) reached result ends_in = absurd result

@@ -1,17 +1,29 @@
 -- What goals and hypotheses mean, inside a set of ground terms.
 use Rattle.std.specs.Prelude.{◌≡◌, ℕ, true, List, ℤ}
 use Rattle.rx_row.specs.Holds.{AllHold}
+use Rattle.rx_row.specs.declared.row.Row.{Row}
 use Rattle.rx_rewriting.specs.Terms.{Ground, TermSet, Fits}
 use Rattle.rx_rewriting.specs.Steps.{Step, Joinable, Either}
+use Rattle.rx_term.specs.Domains.{IsInside}
 use Rattle.rx_term.specs.Fitting.{term_fits}
 use Rattle.rx_term.specs.Meaning.{Instance, ground_at, signature}
 use Rattle.rx_term.specs.declared.rule.Equation.{Equation}
 use Rattle.rx_term.specs.declared.rule.Rule.{Rule}
 use Rattle.rx_term.specs.declared.rule_set.RuleParts.{RuleParts}
+use Rattle.rx_term.specs.declared.term.Term.{Term}
 
--- the terms of which all is said: those that fit the symbols
-abbrev pub Inside : RuleParts → TermSet
-Inside parts = Fits (signature parts)
+-- the terms that fit the symbols
+abbrev pub Fitting : RuleParts → TermSet
+Fitting parts = Fits (signature parts)
+
+-- both terms are inside the domains, at each assignment that meets the rows
+abbrev pub AreInside : RuleParts → List Row → Term → Term → Type 0
+AreInside parts rows s t =
+    (a : ℕ → ℤ) → AllHold a rows → IsInside parts (ground_at a s) × IsInside parts (ground_at a t)
+
+-- both sides of the goal are, wherever its rows hold
+abbrev pub IsGoalInside : RuleParts → Equation → Type 0
+IsGoalInside parts goal = AreInside parts goal.rows goal.left goal.right
 
 -- rules and hypotheses together
 abbrev pub Both : RuleParts → List Rule → Ground → Ground → Type 0

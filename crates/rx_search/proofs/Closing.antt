@@ -8,13 +8,18 @@ use Rattle.rx_term.specs.declared.rule_set.RuleParts.{RuleParts}
 use Rattle.rx_inference.specs.States.{State}
 use Rattle.rx_inference.specs.declared.step.Step.{Step}
 use Rattle.rx_cover.specs.Covering.{Covers, covering}
-use Rattle.rx_pairs.specs.Lowering.{descent_from}
+use Rattle.rx_pairs.specs.Inside.{descends_in, descent_in}
+use Rattle.rx_pairs.specs.Listed.{pairs_by_all}
+use Rattle.rx_pairs.specs.Lowering.{Descends}
 use Rattle.rx_pairs.specs.Pairs.{HasRoot}
 use Rattle.rx_pairs.specs.Ranks.{bad_rank}
-use Rattle.rx_pairs.proofs.PairsLaws.{made_roots, some_all}
+use Rattle.rx_pairs.specs.declared.listing.Listing.{Listing}
+use Rattle.rx_pairs.proofs.InsideLaws.{listing_none}
+use Rattle.rx_pairs.proofs.ListedLaws.{all_listed}
+use Rattle.rx_pairs.proofs.PairsLaws.{made_roots}
 use Rattle.rx_find_ranks.specs.Found.{LowersAll}
 use Rattle.rx_find_ranks.specs.declared.ranking.Ranking.{Ranking}
-use Rattle.rx_log.specs.Acceptance.{Accepted, Checked, Concludes, IsAccepted, OnPairs, ◌>>=◌, after_steps, kept, kept_by, of_descent, once_covered, once_finished, once_ranked}
+use Rattle.rx_log.specs.Acceptance.{Checked, IsAccepted, ◌>>=◌, after_steps, concluded, kept, kept_by, of_descent, once_covered, once_ranked}
 use Rattle.rx_log.specs.Acceptance as acceptance
 use Rattle.rx_log.specs.declared.log.Log.{Log}
 use Rattle.rx_moves.specs.Moves.{move_of}
@@ -86,8 +91,9 @@ node_proved parts goal node steps hypotheses is closed same kept =
       ranked = is.ranked;
     }))
 
-module _ (parts : RuleParts) (goal : Equation) (made : List Step) (hypotheses : List Rule)
-    (log : Log) (ranking : Ranking) (is : IsProved parts goal made hypotheses)
+module _ (parts : RuleParts) (none : parts.domains ≡ []) (goal : Equation) (made : List Step)
+    (hypotheses : List Rule) (log : Log) (ranking : Ranking)
+    (is : IsProved parts goal made hypotheses)
     (covers : covering parts log.covers ≡ Covers) (steps : log.steps ≡ made)
     (table : log.table ≡ ranking.table)
     (certs : log.pairs ≡ ranking.certs) (lowers : LowersAll parts hypotheses ranking) where
@@ -102,21 +108,21 @@ module _ (parts : RuleParts) (goal : Equation) (made : List Step) (hypotheses : 
       ∙ ap (λ t. once_ranked (bad_rank parts t) (Ok hypotheses)) table
       ∙ ap (λ bad. once_ranked bad (Ok hypotheses)) lowers.lawful
 
-  descends : OnPairs (parts.rules ++ hypotheses) log.table log.pairs Accepted
+  abbrev all : List Rule
+  all = parts.rules ++ hypotheses
+
+  descends : descends_in parts all log.table log.pairs ≡ Descends
   descends =
       let roots = All-append HasRoot parts.rules hypotheses
       (made_roots parts parts.rules is.reached.made)
       (reached_rooted parts goal made (joins.finished hypotheses) is.reached)
       in
-      let (pairs, are) = some_all (parts.rules ++ hypotheses) roots in
-      record {
-        pairs = pairs;
-        all_pairs = are;
-        is =
-            (λ i. of_descent (descent_from (table i) 0 pairs (certs i)))
-            ∙ ap of_descent (lowers.lower pairs are);
-      }
+      (λ i. descends_in parts all (table i) (certs i))
+      ∙ ap (λ (l : Listing). descent_in ranking.table l.whole 0 l.pairs ranking.certs)
+      (listing_none parts none all)
+      ∙ lowers.lower (pairs_by_all all) (all_listed all roots)
 
   -- the log of a proof is accepted
   pub accepted : IsAccepted parts goal log
-  accepted = subst (λ check. Concludes parts log check Accepted) (sym keeps) descends
+  accepted =
+      ap (concluded parts log) keeps ∙ ap of_descent descends

@@ -12,7 +12,7 @@ use Rattle.rx_inference.specs.Judging.{certificates}
 use Rattle.rx_inference.specs.declared.step.Step.{Step}
 use Rattle.rx_cover.specs.Depth.{tree_depth}
 use Rattle.rx_cover.specs.declared.cover_tree.CoverTree.{CoverTree, CoverTree-F, fold-roll-CoverTree, ind-CoverTree, map-CoverTree, roll-CoverTree}
-use Rattle.rx_find_cover.specs.Answers.{AreSmall}
+use Rattle.rx_find_cover.specs.Answers.{AreSmall, domain_rows}
 use Rattle.rx_find_cover.specs.Trees.{IsSmall, is_cert_deep, passes_level, tree_passes}
 use Rattle.rx_pairs.specs.declared.pair_cert.PairCert.{PairCert}
 use Rattle.rx_log.specs.Depth.{are_shallow, certs_level, deepest, has_shallow_certs, is_shallow, is_shallow_log, is_shallow_tree}
@@ -90,7 +90,8 @@ depth_shallow : (tree : CoverTree) → tree_depth tree ≤ 33 → nat_le (tree_d
 depth_shallow tree h = grind arith
 
 module _ (parts : RuleParts) where
-  tree_shallow : (tree : CoverTree) → IsSmall parts.rules 33 [] tree → is_shallow_tree tree ≡ true
+  tree_shallow : (tree : CoverTree) → IsSmall parts.rules 33 (domain_rows parts) tree →
+      is_shallow_tree tree ≡ true
   tree_shallow tree small =
       and_from (nat_le (tree_depth tree) deepest) (has_shallow_certs tree)
       (depth_shallow tree small.deep) (certs_in tree small.certs_deep)
@@ -98,7 +99,7 @@ module _ (parts : RuleParts) where
   trees_shallow : (trees : List CoverTree) → AreSmall parts trees → list_all is_shallow_tree trees ≡
       true
   trees_shallow trees all =
-      all_pass (IsSmall parts.rules 33 []) is_shallow_tree tree_shallow trees all
+      all_pass (IsSmall parts.rules 33 (domain_rows parts)) is_shallow_tree tree_shallow trees all
 
   -- ---- logs
 

@@ -240,7 +240,7 @@ module _ (parts : RuleParts) (hypotheses : List Rule) where
       keeps_provided
       (is_equation parts next && (is_substitution ws &&
       (have_one_shape next.left goal.left && have_one_shape next.right goal.right)))
-      (generalised_by goal next ws) f refl e
+      (generalised_by parts goal next ws) f refl e
   formed_keeps goal (Postulate next) f keeps e = absurd keeps
   formed_keeps goal (Split row) f keeps e = absurd keeps
   formed_keeps goal (Results left right) f keeps e = absurd keeps

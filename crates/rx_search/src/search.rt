@@ -174,6 +174,7 @@ pub fn log_of<S: FnMut(&Constraint) -> Result<Option<Cert>, FmEnd>>(
     memo: &mut RankMemo,
     solve: &mut S,
 ) -> Result<Log, NoMemory>
+    requires no_domains { rules.now.domains ≡ [] }
     requires coverable { is_coverable rules.now ≡ true }
     requires proved { (goal : Equation) × IsProved rules.now goal steps.now hypotheses.now }
     requires solver { IsSolver S.FnMut solve.old }
@@ -203,6 +204,7 @@ fn visit<S: FnMut(&Constraint) -> Result<Option<Cert>, FmEnd>>(
     memo: &mut RankMemo,
     solve: &mut S,
 ) -> Result<Log, SearchEnd>
+    requires no_domains { rules.now.domains ≡ [] }
     requires coverable { is_coverable rules.now ≡ true }
     requires pairs { AreAllPairs rules.now.rules pairs.now }
     requires fits { IsFitting rules.now goal.now }
@@ -261,6 +263,7 @@ pub fn search_with<S: FnMut(&Constraint) -> Result<Option<Cert>, FmEnd>>(
     memo: &mut RankMemo,
     solve: &mut S,
 ) -> Result<Log, SearchEnd>
+    requires no_domains { rules.now.domains ≡ [] }
     requires coverable { is_coverable rules.now ≡ true }
     requires pairs { AreAllPairs rules.now.rules pairs.now }
     requires fits { IsFitting rules.now goal.now }
@@ -326,7 +329,7 @@ impl<S: FnMut(&Constraint) -> Result<Option<Cert>, FmEnd>> Search<S> {
 
     /// Searches for a proof that both sides of the goal come to the same: nodes are visited by
     /// lists, the first with no choices on a path, the last with at most `depth` of them, and at
-    /// most `budget` nodes are visited. The depth is at most 12.
+    /// most `budget` nodes are visited. The depth is at most 12, and the rules have no domains.
     ///
     /// The answer is a log that is accepted for the rules and the goal; no certificate and no tree
     /// in it is deeper than 200, and its rank table has 1 to 15 columns. `NoRanks` where the rules
@@ -344,6 +347,7 @@ impl<S: FnMut(&Constraint) -> Result<Option<Cert>, FmEnd>> Search<S> {
         budget: u32,
     ) -> Result<Log, SearchEnd>
         requires solver { IsSolver S.FnMut self.old }
+        requires no_domains { rules.now.domains ≡ [] }
         requires coverable { is_coverable rules.now ≡ true }
         requires fits { IsFitting rules.now goal.now }
         requires depth { depth ≤ 12 }

@@ -1,4 +1,4 @@
--- A goal alone, and what came of it put back among the others.
+-- A goal alone, what came of it put back among the others, and a goal put before them.
 use Rattle.std.specs.Prelude.{[], ◌∷◌, ◌++◌, drop}
 use Rattle.rx_term.specs.declared.rule.Equation.{Equation}
 use Rattle.rx_inference.specs.States.{State}
@@ -14,3 +14,8 @@ onto state after = record {
   goals = after.goals ++ drop 1 state.goals;
   hypotheses = state.hypotheses ++ after.hypotheses;
 }
+
+-- the goal before the others
+abbrev pub put_before : State → Equation → State
+put_before state goal =
+    record { goals = goal ∷ state.goals; hypotheses = state.hypotheses }

@@ -2,16 +2,17 @@
 ghost use Rattle.std.specs.Prelude.{◌≡◌, IsTrue, OnErr};
 ghost use Rattle.rx_inference.specs.States.{applied};
 ghost use Rattle.rx_inference.specs.declared.step.Step.TheVariants.{Postulate};
+ghost use Rattle.rx_steps.specs.Alone.{put_before};
 ghost use Rattle.rx_steps.specs.Faults.{Applies};
 ghost use Rattle.rx_steps.specs.Settled.{IsSettled, ReturnsOne, bare_equal};
 ghost use Rattle.rx_steps.specs.Shown.{Shows};
 
-use crate::judging::judge;
+use crate::judging::{judge, judge_inside};
 use crate::state::State;
 use crate::step_end::StepEnd;
 use rx_cert::Cert;
 use rx_inference::{Delete, FormedStep, Step, form, is_equation};
-use rx_term::{Equation, RuleSet, Term};
+use rx_term::{Equation, RuleSet, Term, inside_of};
 use std::alloc::Global;
 
 /// What the step makes of the first goal, where its certificates show what it asks.
@@ -93,9 +94,30 @@ pub fn apply(alloc: Global, state: &mut State, rules: &RuleSet, step: &Step) -> 
     apply_formed(alloc, state, rules, step)
 }
 
-/// The new goal before the first one, where it is an equation and there are no certificates, since
-/// nothing is asked.
+/// Whether there is a first goal, the new one is an equation, and the certificates show the rows
+/// that put it inside the domains.
 #[tactic(auto, using(crate::proofs::PostulateLaws::no_goal))]
+fn allow_postulate(
+    alloc: Global,
+    state: &State,
+    rules: &RuleSet,
+    new: &Equation,
+    certs: &[Cert],
+) -> Result<(), StepEnd>
+    ensures { Applies result (put_before state.now new.now)
+        (applied rules.now state.now (Postulate new.now.left new.now.right new.now.rows certs.now)) }
+{
+    let Some(_) = state.first() else {
+        return Err(StepEnd::NoGoal);
+    };
+    if !is_equation(rules.parts(), new) {
+        return Err(StepEnd::WrongShape);
+    }
+    let inside = inside_of(alloc, rules, new)?;
+    judge_inside(alloc, &new.rows, inside, certs)
+}
+
+/// The new goal before the first one, where the step is allowed.
 fn postulate(
     alloc: Global,
     state: &mut State,
@@ -107,15 +129,7 @@ fn postulate(
         (applied rules.now state.old (Postulate new.left new.right new.rows certs.now)) }
     ensures kept { OnErr result (state.new ≡ state.old) }
 {
-    let Some(_) = state.first() else {
-        return Err(StepEnd::NoGoal);
-    };
-    if !is_equation(rules.parts(), &new) {
-        return Err(StepEnd::WrongShape);
-    }
-    if !certs.is_empty() {
-        return Err(StepEnd::WrongShape);
-    }
+    allow_postulate(alloc, state, rules, &new, certs)?;
     Ok(state.put_before(alloc, new)?)
 }
 

@@ -1,13 +1,15 @@
 //! Whether the certificates of a step show what it asks.
-ghost use Rattle.std.specs.Prelude.{◌≡◌, ◌<◌, ◌+◌, ◌^◌, ◌↔◌, [], ◌∷◌, IsTrue, Some, length};
+ghost use Rattle.std.specs.Prelude.{◌≡◌, ◌<◌, ◌+◌, ◌^◌, ◌↔◌, [], ◌∷◌, IfOk, IsTrue, Some, length};
 ghost use Rattle.rx_cert.specs.Conditions.{asked_for, in_order};
 ghost use Rattle.rx_inference.specs.Judging.{asked_by_all, first_rows, given_to, groups_in_order, judged, of_conditions, refutation};
 ghost use Rattle.rx_inference.specs.declared.formed_step.Asked.TheVariants.{Rows};
+ghost use Rattle.rx_inference.specs.declared.formed_step.Under.TheVariants.{New};
 ghost use Rattle.rx_steps.specs.Faults.{Judges};
 
 use crate::step_end::StepEnd;
 use rx_cert::{Cert, ConditionsAnswer, check_in_order, count_asked, shows};
 use rx_inference::{Asked, FormedStep, Group, Under};
+use rx_plain::{Items, NoMemory};
 use rx_row::{Constraint, Row};
 use std::alloc::Global;
 
@@ -123,6 +125,32 @@ fn show_groups(
         return Err(StepEnd::WrongShape);
     }
     show_in_order(alloc, old, new, groups, certs)
+}
+
+/// The rows under those of the new goal, alone.
+fn group_of_new(alloc: Global, rows: Items<Row>) -> Result<Items<Group>, NoMemory>
+    ensures { IfOk result (λ groups. groups ≡ record { under = New; rows = rows } ∷ []) }
+{
+    let mut groups = Items::new(alloc);
+    groups.push(Group {
+        under: Under::New,
+        rows,
+    })?;
+    Ok(groups)
+}
+
+/// Whether the certificates show the rows that put a new goal with those rows inside the domains.
+pub(crate) fn judge_inside(
+    alloc: Global,
+    new: &Constraint,
+    inside: Items<Row>,
+    certs: &[Cert],
+) -> Result<(), StepEnd>
+    ensures { Judges result
+        (judged new.now new.now (Rows (record { under = New; rows = inside } ∷ [])) certs.now) }
+{
+    let groups = group_of_new(alloc, inside)?;
+    show_groups(alloc, new, new, groups.as_slice(), certs)
 }
 
 /// Whether the certificates show what is asked under the rows of the goal, and under those of the

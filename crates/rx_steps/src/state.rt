@@ -2,7 +2,7 @@
 ghost use Rattle.std.specs.Prelude.{◌≡◌, ◌+◌, ◌≤◌, ◌<◌, ◌^◌, nat_lt, ◌∷◌, [], ◌++◌, drop, length, reverse, slice_get, vec_capacity, vec_len, IfOk, OnOk, OnErr};
 ghost use Rattle.std.specs.Option.{option_copied};
 ghost use Rattle.rx_inference.specs.States.{taken};
-ghost use Rattle.rx_steps.specs.Alone.{alone, onto};
+ghost use Rattle.rx_steps.specs.Alone.{alone, onto, put_before};
 
 use rx_inference::FormedStep;
 use rx_plain::{NoMemory, Shared};
@@ -245,8 +245,7 @@ impl State {
     /// the state stays as it was.
     #[tactic(auto, using(crate::proofs::Reversed::pushed))]
     pub fn put_before(&mut self, alloc: Global, goal: Equation) -> Result<(), NoMemory>
-        ensures ok { OnOk result (self.new ≡
-            record { goals = goal ∷ self.old.goals; hypotheses = self.old.hypotheses }) }
+        ensures ok { OnOk result (self.new ≡ put_before self.old goal) }
         ensures err { OnErr result (self.new ≡ self.old) }
     {
         if !is_room(self.goals.len(), 1) {

@@ -4,11 +4,12 @@ use Rattle.std.specs.Prelude.{if◌then◌else◌, option_and_then}
 use Rattle.rx_cert.specs.Findings.{Said, Yes, No, Beyond}
 use Rattle.rx_row.specs.declared.row.Row.{Row}
 use Rattle.rx_solve.specs.Attempts.{where_shown}
+use Rattle.rx_term.specs.Domains.{inside_of}
 use Rattle.rx_term.specs.declared.rule.Equation.{Equation}
 use Rattle.rx_term.specs.declared.rule_set.RuleParts.{RuleParts}
 use Rattle.rx_inference.specs.Forming.{provided}
-use Rattle.rx_inference.specs.Making.{instance_rows}
-use Rattle.rx_inference.specs.Pieces.{asking, have_one_shape, is_equation, is_substitution}
+use Rattle.rx_inference.specs.Making.{asking_inside, instance_rows}
+use Rattle.rx_inference.specs.Pieces.{have_one_shape, is_equation, is_substitution}
 use Rattle.rx_inference.specs.States.{State, taken}
 use Rattle.rx_inference.specs.declared.form_end.FormEnd.TheVariants.{Large}
 use Rattle.rx_inference.specs.declared.step.Step.{Step}
@@ -25,23 +26,23 @@ module _ (parts : RuleParts) (goal to : Equation) where
   abbrev stays : Option Next → Option State
   stays made = option_and_then (λ (next : Next). Some next.state) made
 
-  module _ (rows : List Row) where
+  module _ (rows inside : List Row) where
     shown_bare : (said : Said) (new : State) →
         stays (where_shown said (record {
           move = Generalise to [];
-          state = taken (goal_under [] goal) (asking rows (to ∷ []));
+          state = taken (goal_under [] goal) (asking_inside rows inside to);
         })).made ≡ Some new → new ≡ goal_under [] to
     shown_bare Yes new e =
-        let same : taken (goal_under [] goal) (asking rows (to ∷ [])) ≡ new = cc in sym same
+        let same : taken (goal_under [] goal) (asking_inside rows inside to) ≡ new = cc in sym same
     shown_bare No new e = absurd cc
     shown_bare Beyond new e = absurd cc
 
     formed_bare : (b w : Bool) (new : State) →
         stays (next_if_formed (goal_under [] goal) (Generalise to [])
-        (provided b (if w then Ok (asking rows (to ∷ [])) else Err Large))).made ≡ Some new →
+        (provided b (if w then Ok (asking_inside rows inside to) else Err Large))).made ≡ Some new →
         new ≡ goal_under [] to
     formed_bare true true new e =
-        shown_bare (asked_shown goal.rows to.rows (asking rows (to ∷ [])).asked) new e
+        shown_bare (asked_shown goal.rows to.rows (asking_inside rows inside to).asked) new e
     formed_bare true false new e = absurd cc
     formed_bare false w new e = absurd cc
 
@@ -50,10 +51,10 @@ module _ (parts : RuleParts) (goal to : Equation) where
       new ≡ goal_under [] to
   unfolding attempt
   bare_state new e =
-      formed_bare (instance_rows [] to goal).form
+      formed_bare (instance_rows [] to goal).form (inside_of parts to).form
       (is_equation parts to && (is_substitution [] &&
       (have_one_shape to.left goal.left && have_one_shape to.right goal.right)))
-      (instance_rows [] to goal).within new e
+      ((instance_rows [] to goal).within && (inside_of parts to).within) new e
 
   -- the opening behind that step
   pub bare_begun : StartsAt parts goal → (new : State) (steps : List Step) →

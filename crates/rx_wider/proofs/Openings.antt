@@ -1,19 +1,21 @@
 -- A lemma on a tail call: where its steps lead, before the goal and alone.
-use Rattle.std.proofs.Common.{◌≡◌, ◌∙◌, ap, sym, subst, Bool, true, false, Option, Some, None, Ok, List, [], ◌∷◌, ◌++◌, map, All, append_assoc}
+use Rattle.std.proofs.Common.{◌≡◌, ◌∙◌, ap, sym, subst, Bool, true, false, Option, Some, None, Ok, Err, List, [], ◌∷◌, ◌++◌, map, All, append_assoc}
 use Rattle.std.specs.Prelude.{if◌then◌else◌, option_and_then}
 use Rattle.std.proofs.lemmas.List.{append-nil, map-append}
 use Rattle.rx_cert.specs.Findings.{Said, Yes, No, Beyond}
 use Rattle.rx_solve.specs.Attempts.{where_shown}
 use Rattle.rx_pairs.specs.Pairs.{HasRoot, SidesFit}
 use Rattle.rx_rank.specs.Ranking.{ranked}
+use Rattle.rx_row.specs.declared.row.Row.{Row}
+use Rattle.rx_term.specs.Domains.{inside_of}
 use Rattle.rx_term.specs.declared.rule.Equation.{Equation}
 use Rattle.rx_term.specs.declared.rule.Rule.{Rule}
 use Rattle.rx_term.specs.declared.rule_set.RuleParts.{RuleParts}
 use Rattle.rx_inference.specs.Forming.{provided}
-use Rattle.rx_inference.specs.Judging.{first_rows}
-use Rattle.rx_inference.specs.Making.{postulated_by}
+use Rattle.rx_inference.specs.Making.{asking_before}
 use Rattle.rx_inference.specs.Pieces.{is_equation}
 use Rattle.rx_inference.specs.States.{State, taken}
+use Rattle.rx_inference.specs.declared.form_end.FormEnd.TheVariants.{Large}
 use Rattle.rx_inference.specs.declared.step.Side.TheVariants.{Left}
 use Rattle.rx_inference.specs.declared.step.Step.{Step}
 use Rattle.rx_moves.specs.Moves.{Expand, Postulate, move_of}
@@ -37,31 +39,36 @@ module _ (parts : RuleParts) (hypotheses : List Rule) (goal lemma : Equation) wh
   abbrev stays : Option Next → Option State
   stays made = option_and_then (λ (next : Next). Some next.state) made
 
-  shown_state : (said : Said) (new : State) →
-      stays (where_shown said (record {
-        move = Postulate lemma;
-        state = taken (goal_under hypotheses goal) (postulated_by goal lemma);
-      })).made ≡ Some new → new ≡ both_goals
-  shown_state Yes new e =
-      let same : taken (goal_under hypotheses goal) (postulated_by goal lemma) ≡ new = cc in
-      sym same
-      ∙ (λ i. record { goals = lemma ∷ goal ∷ []; hypotheses = append-nil hypotheses i })
-  shown_state No new e = absurd cc
-  shown_state Beyond new e = absurd cc
+  module _ (inside : List Row) where
+    shown_state : (said : Said) (new : State) →
+        stays (where_shown said (record {
+          move = Postulate lemma;
+          state = taken (goal_under hypotheses goal) (asking_before inside lemma goal);
+        })).made ≡ Some new → new ≡ both_goals
+    shown_state Yes new e =
+        let same : taken (goal_under hypotheses goal) (asking_before inside lemma goal) ≡ new =
+        cc in
+        sym same
+        ∙ (λ i. record { goals = lemma ∷ goal ∷ []; hypotheses = append-nil hypotheses i })
+    shown_state No new e = absurd cc
+    shown_state Beyond new e = absurd cc
 
-  formed_state : (b : Bool) (new : State) →
-      stays (next_if_formed (goal_under hypotheses goal) (Postulate lemma)
-      (provided b (Ok (postulated_by goal lemma)))).made ≡ Some new → new ≡ both_goals
-  formed_state true new e =
-      shown_state (asked_shown goal.rows (first_rows (postulated_by goal lemma).goals)
-      (postulated_by goal lemma).asked) new e
-  formed_state false new e = absurd cc
+    formed_state : (b w : Bool) (new : State) →
+        stays (next_if_formed (goal_under hypotheses goal) (Postulate lemma)
+        (provided b (if w then Ok (asking_before inside lemma goal) else Err Large))).made
+        ≡ Some new → new ≡ both_goals
+    formed_state true true new e =
+        shown_state (asked_shown goal.rows lemma.rows (asking_before inside lemma goal).asked) new e
+    formed_state true false new e = absurd cc
+    formed_state false w new e = absurd cc
 
   posed_state : (new : State) →
       after_moves parts (goal_under hypotheses goal) (Postulate lemma ∷ []) ≡ Some new →
       new ≡ both_goals
   unfolding attempt
-  posed_state new e = formed_state (is_equation parts lemma) new e
+  posed_state new e =
+      formed_state (inside_of parts lemma).form (is_equation parts lemma)
+      (inside_of parts lemma).within new e
 
 -- ---- a lemma that was posed
 

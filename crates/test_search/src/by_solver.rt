@@ -1,5 +1,5 @@
 //! The search for a proof of a goal over a rule set, by any solver.
-ghost use Rattle.std.specs.Prelude.{◌≡◌, ◌≤◌, true};
+ghost use Rattle.std.specs.Prelude.{◌≡◌, ◌≤◌, [], true};
 ghost use Rattle.rx_find_cover.specs.Coverable.{is_coverable};
 ghost use Rattle.rx_proofs.specs.Goals.{IsFitting};
 ghost use Rattle.rx_solve.specs.Answers.{IsSolver};
@@ -37,6 +37,7 @@ pub fn searched_by<S: FnMut(&Constraint) -> Result<Option<Cert>, FmEnd>>(
 where
     S: Drop,
     requires solver { IsSolver S.FnMut solve }
+    requires no_domains { set.now.domains ≡ [] }
     requires coverable { is_coverable set.now ≡ true }
     requires fits { IsFitting set.now task.now.goal }
     requires depth { task.now.depth ≤ 12 }

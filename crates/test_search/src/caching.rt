@@ -1,5 +1,5 @@
 //! The search by a cached solver.
-ghost use Rattle.std.specs.Prelude.{◌≡◌, ◌≤◌, true};
+ghost use Rattle.std.specs.Prelude.{◌≡◌, ◌≤◌, [], true};
 ghost use Rattle.rx_cache.specs.CachedSolver.{IsCachedSolver};
 ghost use Rattle.rx_find_cover.specs.Coverable.{is_coverable};
 ghost use Rattle.rx_proofs.specs.Goals.{IsFitting};
@@ -24,6 +24,7 @@ fn search_cached<S: FnMut(&Constraint) -> Result<Option<Cert>, FmEnd>>(
 where
     S: Drop,
     requires known { IsCachedSolver S.FnMut cached }
+    requires no_domains { set.now.domains ≡ [] }
     requires coverable { is_coverable set.now ≡ true }
     requires fits { IsFitting set.now task.now.goal }
     requires depth { task.now.depth ≤ 12 }
@@ -39,6 +40,7 @@ where
 
 /// What the search comes to by the refuter behind a cache that holds `capacity` answers.
 pub fn search_after(alloc: Global, set: &RuleSet, task: &Task, capacity: u32) -> Option<Vec<u8>>
+    requires no_domains { set.now.domains ≡ [] }
     requires coverable { is_coverable set.now ≡ true }
     requires fits { IsFitting set.now task.now.goal }
     requires depth { task.now.depth ≤ 12 }

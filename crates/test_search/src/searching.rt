@@ -1,6 +1,6 @@
 //! Searches by the refuter: what each comes to, how often it asks, and whether it comes to the same
 //! bytes whatever a cache holds and however many nodes are kept.
-ghost use Rattle.std.specs.Prelude.{◌≡◌, ◌≤◌, true};
+ghost use Rattle.std.specs.Prelude.{◌≡◌, ◌≤◌, [], true};
 ghost use Rattle.std.specs.Bool.{IsTrue};
 ghost use Rattle.rx_find_cover.specs.Coverable.{is_coverable};
 ghost use Rattle.rx_proofs.specs.Goals.{IsFitting};
@@ -32,8 +32,16 @@ pub fn is_fitting(set: &RuleSet, goal: &Equation) -> bool
     set.fits(&goal.left) && set.fits(&goal.right)
 }
 
+/// Whether no symbol of the set has a domain.
+pub fn is_without_domains(set: &RuleSet) -> bool
+    ensures { IsTrue result → set.now.domains ≡ [] }
+{
+    set.parts().domains.is_empty()
+}
+
 // What the search comes to by the refuter, where it keeps at most `most_kept` nodes.
 fn by_refuter(alloc: Global, set: &RuleSet, task: &Task, most_kept: usize) -> Option<Vec<u8>>
+    requires no_domains { set.now.domains ≡ [] }
     requires coverable { is_coverable set.now ≡ true }
     requires fits { IsFitting set.now task.now.goal }
     requires depth { task.now.depth ≤ 12 }
@@ -44,6 +52,7 @@ fn by_refuter(alloc: Global, set: &RuleSet, task: &Task, most_kept: usize) -> Op
 
 /// How often the search asks the refuter; none where memory ran out.
 pub fn calls_of(alloc: Global, set: &RuleSet, task: &Task) -> Option<u64>
+    requires no_domains { set.now.domains ≡ [] }
     requires coverable { is_coverable set.now ≡ true }
     requires fits { IsFitting set.now task.now.goal }
     requires depth { task.now.depth ≤ 12 }
@@ -59,6 +68,7 @@ pub fn calls_of(alloc: Global, set: &RuleSet, task: &Task) -> Option<u64>
 
 /// What the search comes to.
 pub fn searched(alloc: Global, set: &RuleSet, task: &Task) -> Option<Vec<u8>>
+    requires no_domains { set.now.domains ≡ [] }
     requires coverable { is_coverable set.now ≡ true }
     requires fits { IsFitting set.now task.now.goal }
     requires depth { task.now.depth ≤ 12 }
@@ -68,6 +78,7 @@ pub fn searched(alloc: Global, set: &RuleSet, task: &Task) -> Option<Vec<u8>>
 
 // Whether the search that keeps at most `most_kept` nodes comes to this text.
 fn is_kept(alloc: Global, set: &RuleSet, task: &Task, most_kept: usize, text: &[u8]) -> bool
+    requires no_domains { set.now.domains ≡ [] }
     requires coverable { is_coverable set.now ≡ true }
     requires fits { IsFitting set.now task.now.goal }
     requires depth { task.now.depth ≤ 12 }
@@ -81,6 +92,7 @@ fn is_kept(alloc: Global, set: &RuleSet, task: &Task, most_kept: usize, text: &[
 /// What searches come to that keep 1, 4 and 65,536 nodes, where that is the same; otherwise the
 /// word `differ`.
 pub fn kept(alloc: Global, set: &RuleSet, task: &Task) -> Option<Vec<u8>>
+    requires no_domains { set.now.domains ≡ [] }
     requires coverable { is_coverable set.now ≡ true }
     requires fits { IsFitting set.now task.now.goal }
     requires depth { task.now.depth ≤ 12 }
@@ -94,6 +106,7 @@ pub fn kept(alloc: Global, set: &RuleSet, task: &Task) -> Option<Vec<u8>>
 
 // Whether the search behind a cache that holds `capacity` answers comes to this text.
 fn is_cached(alloc: Global, set: &RuleSet, task: &Task, capacity: u32, text: &[u8]) -> bool
+    requires no_domains { set.now.domains ≡ [] }
     requires coverable { is_coverable set.now ≡ true }
     requires fits { IsFitting set.now task.now.goal }
     requires depth { task.now.depth ≤ 12 }
@@ -109,6 +122,7 @@ fn is_cached(alloc: Global, set: &RuleSet, task: &Task, capacity: u32, text: &[u
 /// What searches come to by the refuter behind caches that hold 1, 16 and 4,096 answers, where that
 /// is the same; otherwise the word `differ`.
 pub fn cached(alloc: Global, set: &RuleSet, task: &Task) -> Option<Vec<u8>>
+    requires no_domains { set.now.domains ≡ [] }
     requires coverable { is_coverable set.now ≡ true }
     requires fits { IsFitting set.now task.now.goal }
     requires depth { task.now.depth ≤ 12 }

@@ -2,7 +2,9 @@
 use crate::by_solver::Task;
 use crate::counting::counted;
 use crate::ends::word;
-use crate::searching::{cached, calls_of, is_covered, is_fitting, kept, searched};
+use crate::searching::{
+    cached, calls_of, is_covered, is_fitting, is_without_domains, kept, searched,
+};
 use rx_term::RuleSet;
 use std::alloc::Global;
 use test_lines::equation;
@@ -22,7 +24,10 @@ fn task(alloc: Global, goal: &str, depth: &str, budget: &str) -> Option<Task> {
 // What a call that searches comes to; none where nothing covers the set, the goal doesn't fit it,
 // or the depth is too great.
 fn after(alloc: Global, set: &RuleSet, call: &str, task: &Task) -> Option<Vec<u8>> {
-    if task.depth > MOST_DEEP || !is_fitting(set, &task.goal) || !is_covered(alloc, set) {
+    if task.depth > MOST_DEEP || !is_fitting(set, &task.goal) || !is_without_domains(set) {
+        return None;
+    }
+    if !is_covered(alloc, set) {
         return None;
     }
     match call {
@@ -35,7 +40,10 @@ fn after(alloc: Global, set: &RuleSet, call: &str, task: &Task) -> Option<Vec<u8
 
 // How often a search asks the refuter.
 fn calls(alloc: Global, set: &RuleSet, task: &Task) -> Option<u64> {
-    if task.depth > MOST_DEEP || !is_fitting(set, &task.goal) || !is_covered(alloc, set) {
+    if task.depth > MOST_DEEP || !is_fitting(set, &task.goal) || !is_without_domains(set) {
+        return None;
+    }
+    if !is_covered(alloc, set) {
         return None;
     }
     calls_of(alloc, set, task)

@@ -11,6 +11,7 @@
 #![tactic(auto)]
 
 mod example;
+mod inside_calls;
 mod proof_answers;
 mod reading;
 mod rule_calls;
@@ -35,6 +36,9 @@ fn answer_to(alloc: Global, call: &str, given: &str) -> Option<Answer> {
         return Some(answer);
     }
     if let Some(answer) = proof_answers::answer_to(alloc, call, given) {
+        return Some(answer);
+    }
+    if let Some(answer) = inside_calls::answer_to(alloc, call, given) {
         return Some(answer);
     }
     states::answer(alloc, call, given)

@@ -2,17 +2,16 @@
 use crate::steps::step;
 use rx_inference::{Asked, FormEnd, FormedStep, Group, form};
 use rx_plain::Items;
-use rx_row::Row;
 use rx_term::{Equation, Rule, RuleParts, RuleSet};
-use rx_text::push_word;
-use rx_words::{NoMemory, push_count, push_rows};
+use rx_text::{push_row, push_word};
+use rx_words::{NoMemory, push_count};
 use std::alloc::Global;
 use test_lines::{
     Answer, SEMICOLON, equation, push_each, push_goal, push_rule, rules, six_symbols, written,
 };
 
-// Why the step isn't formed; out of memory is none that a line could want.
-fn ended(end: FormEnd) -> Option<Answer> {
+/// Why the step isn't formed; out of memory is none that a line could want.
+pub(crate) fn ended(end: FormEnd) -> Option<Answer> {
     match end {
         FormEnd::NoGoal => Some(Answer::Word("no-goal")),
         FormEnd::WrongShape => Some(Answer::Word("wrong-shape")),
@@ -22,18 +21,28 @@ fn ended(end: FormEnd) -> Option<Answer> {
     }
 }
 
-// The rows of the one group, if there is one.
-fn rows_of(groups: &[Group]) -> &[Row] {
-    match groups.last() {
-        Some(group) => group.rows.as_slice(),
-        None => &[],
+// How many rows the groups ask.
+fn count_rows(groups: &[Group]) -> usize {
+    let mut count: usize = 0;
+    for group in groups {
+        count = count.saturating_add(group.rows.len());
     }
+    count
 }
 
-// The rows that the step asks, if there are some.
-fn asked_rows(formed: &FormedStep) -> &[Row] {
+// The rows of all groups, how many and then each.
+fn push_asked(out: &mut Vec<u8>, groups: &[Group]) -> Result<(), NoMemory> {
+    push_count(out, count_rows(groups))?;
+    for group in groups {
+        push_each(group.rows.as_slice(), out, |row, out| push_row(out, row))?;
+    }
+    Ok(())
+}
+
+// The groups of rows that the step asks, if there are some.
+fn asked_groups(formed: &FormedStep) -> &[Group] {
     match &formed.asked {
-        Asked::Rows(groups) => rows_of(groups.as_slice()),
+        Asked::Rows(groups) => groups.as_slice(),
         Asked::Refuted => &[],
     }
 }
@@ -46,7 +55,7 @@ fn push_made(out: &mut Vec<u8>, goals: &[Equation], kept: &[Rule]) -> Result<(),
 }
 
 fn push_formed(out: &mut Vec<u8>, formed: &FormedStep) -> Result<(), NoMemory> {
-    push_rows(asked_rows(formed), out)?;
+    push_asked(out, asked_groups(formed))?;
     push_word(out, b" ")?;
     push_made(out, formed.goals.as_slice(), formed.kept.as_slice())
 }

@@ -1,13 +1,10 @@
 -- One symbol more; at the end none is left.
 use Rattle.std.proofs.Common.{◌≡◌, ◌∙◌, ap, sym, subst, false, ◌||◌, List, [], ◌∷◌, ◌++◌, ◌+◌, drop, drop_of_length-le, get_or}
-use Rattle.std.specs.Prelude.{IfSome, slice_get}
+use Rattle.std.specs.Prelude.{slice_get}
 use Rattle.std.proofs.lemmas.Option.{slice_get-get_or}
 use Rattle.rx_plain.proofs.Booleans.{either_first, either_second}
-use Rattle.rx_cover.specs.Covering.{redex_shapes, symbol}
-use Rattle.rx_term.specs.declared.rule.Rule.{Rule}
 use Rattle.rx_term.specs.declared.rule_set.SymInfo.{SymInfo}
-use Rattle.rx_find_cover.specs.Answers.{AreTrees}
-use Rattle.rx_find_cover.specs.Coverable.{coverage, shapes_coverage, symbols_coverage}
+use Rattle.rx_find_cover.specs.Coverable.{coverage, symbols_coverage}
 use Rattle.rx_find_cover.specs.Coverage.{noting}
 use Rattle.rx_find_cover.proofs.Growing.{Listing, all_listed, listed_next, next_symbol}
 use Rattle.rx_find_cover.proofs.finding.build_cover.Goals as goal
@@ -21,7 +18,6 @@ loop-sym-preserved g c =
     let info : SymInfo = get_or lent c.loop-sym.sym blank in
     let there = ap (λ (xs : List SymInfo). slice_get xs c.loop-sym.sym) (sym c.as_slice-info-items.ensures) ∙
     slice_get-get_or lent c.loop-sym.sym blank c.loop-sym-test.true in
-    let shapes = redex_shapes (symbol c.loop-sym.sym) info.frame parts.fails in
     let either : c.if-noted.noted ≡ (c.loop-sym.noted || c.in_ok-tried.tried.noted) =
     elim c.if-noted.branch [
       | then-noted w ↦ either_first c.loop-sym.noted c.in_ok-tried.tried.noted c.if-noted.noted
@@ -29,13 +25,8 @@ loop-sym-preserved g c =
       | else-noted w ↦ either_second c.loop-sym.noted c.in_ok-tried.tried.noted c.if-noted.noted
           w.if-noted.false w.noted-is
     ] in
-    let coverage_is = c.in_ok-tried.ensures.coverage ∙
-    ap (λ (rules : List Rule). shapes_coverage rules [] shapes) c.as_slice-rules.ensures in
-    let trees = subst (λ (rules : List Rule).
-    IfSome c.in_ok-tried.tried.made (AreTrees rules [] shapes)) c.as_slice-rules.ensures
-    c.in_ok-tried.ensures.trees in
     let decides = next_symbol parts c.loop-sym.sym info there c.loop-sym.noted c.in_ok-tried.tried
-    c.in-Some.trees coverage_is c.in-Some.is c.loop-sym.invariant.decides in
+    c.in-Some.trees c.in_ok-tried.ensures.coverage c.in-Some.is c.loop-sym.invariant.decides in
     record {
       solver = c.build_symbol.ensures.solver;
       decides =
@@ -43,7 +34,8 @@ loop-sym-preserved g c =
           (drop (c.loop-sym.sym + 1) parts.symbols)) ≡ coverage parts) (sym either) decides;
       listing =
           listed_next parts c.loop-sym.sym info there c.loop-sym.lists c.push.new.self
-          c.in_ok-tried.tried.made c.in-Some.trees c.loop-sym.invariant.listing c.in-Some.is trees
+          c.in_ok-tried.tried.made c.in-Some.trees c.loop-sym.invariant.listing c.in-Some.is
+          c.in_ok-tried.ensures.trees
           (c.in_ok-push.ensures.ok ∙ ap (λ t. c.loop-sym.lists ++ t ∷ []) c.in-Some.trees-is);
     }
 

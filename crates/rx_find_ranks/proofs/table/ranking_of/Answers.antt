@@ -1,7 +1,7 @@
 -- The table is lawful, and all pairs are lower by it.
-use Rattle.std.proofs.Common.{◌∙◌, All, List, ap, length, subst, sym}
+use Rattle.std.proofs.Common.{◌∙◌, All, List, ap, length, subst, sym, true}
 use Rattle.std.proofs.lemmas.List.{length-map}
-use Rattle.rx_pairs.specs.Lowering.{descent_from}
+use Rattle.rx_pairs.specs.Inside.{descent_in}
 use Rattle.rx_pairs.specs.declared.pair_cert.PairCert.{PairCert}
 use Rattle.rx_find_ranks.proofs.Finished.{table_deep, table_descends, table_lawful}
 use Rattle.rx_find_ranks.specs.Tables.{IsDeepPair}
@@ -16,8 +16,8 @@ returns-clause-lawful c = λ parts count all.
 
 pub returns-clause-lower : goal.returns-clause-lower
 returns-clause-lower c = λ pairs split over.
-    ap (λ (certs : List PairCert). descent_from
-    (record { columns = length c.args.columns.now; ranks = c.in_ok-ranks.ranks }) 0 pairs certs)
+    ap (λ (certs : List PairCert). descent_in
+    (record { columns = length c.args.columns.now; ranks = c.in_ok-ranks.ranks }) true 0 pairs certs)
     c.in_ok-certs.ensures
     ∙ table_descends (columns_in c.args.columns.now) c.args.symbols
     (record { columns = length c.args.columns.now; ranks = c.in_ok-ranks.ranks })

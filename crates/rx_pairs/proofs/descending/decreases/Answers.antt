@@ -1,9 +1,9 @@
 -- The ranks decide first. Where they are lawful, the rules are well made, and the pairs decide.
-use Rattle.std.proofs.Common.{◌≡◌, ◌∙◌, ◌++◌, ap, refl, subst, sym, Err, List, Result, All}
+use Rattle.std.proofs.Common.{◌∙◌, ◌++◌, ap, refl, subst, sym, Err, List, Result, All}
 use Rattle.rx_term.specs.declared.rule.Rule.{Rule}
-use Rattle.rx_pairs.specs.Descents.{TellsRanked}
-use Rattle.rx_pairs.specs.Lowering.{descent_from}
-use Rattle.rx_pairs.specs.Pairs.{AreAllPairs, HasRoot}
+use Rattle.rx_pairs.specs.Descents.{Tells, TellsRanked}
+use Rattle.rx_pairs.specs.Inside.{descends_in}
+use Rattle.rx_pairs.specs.Pairs.{HasRoot}
 use Rattle.rx_pairs.specs.Ranks.{bad_rank}
 use Rattle.rx_pairs.specs.declared.pair_end.PairEnd.{PairEnd}
 use Rattle.rx_pairs.specs.declared.pair_end.PairEnd.TheVariants.{BadRanks}
@@ -18,23 +18,27 @@ both_lower-requires-clause-rules c =
     subst (All HasRoot) (sym rules) (made_roots parts parts.rules c.parts-parts.ensures.made)
 
 pub returns-in-Some-clause-exact : goal.returns-in-Some-clause-exact
-returns-in-Some-clause-exact c = λ pairs are.
+returns-in-Some-clause-exact c =
     let bad : Result (Unit {0}) PairEnd = Err (BadRanks c.in-Some.sym) in
-    subst (λ found. TellsRanked found (descent_from c.args.table.now 0 pairs c.args.certs.now) bad)
+    subst (λ found. TellsRanked found (descends_in c.args.rules.now
+    (c.args.rules.now.rules ++ c.args.hypotheses.now) c.args.table.now c.args.certs.now) bad)
     c.in-Some.ensures refl
 
 pub returns-clause-exact : goal.returns-clause-exact
-returns-clause-exact c = λ pairs are.
+returns-clause-exact c =
+    let parts = c.args.rules.now in
     let rules = c.as_slice.ensures ∙ ap (λ all. all.rules) c.parts-parts.ensures.parts in
-    told_ranked (descent_from c.args.table.now 0 pairs c.args.certs.now)
-    (bad_rank c.args.rules.now c.args.table.now) c.both_lower.result (sym c.in_default.ensures)
-    (c.both_lower.ensures pairs (subst
-    (λ (rs : List Rule). AreAllPairs (rs ++ c.args.hypotheses.now) pairs) (sym rules) are))
+    told_ranked (descends_in parts (parts.rules ++ c.args.hypotheses.now) c.args.table.now
+    c.args.certs.now) (bad_rank parts c.args.table.now) c.both_lower.result
+    (sym c.in_default.ensures)
+    (subst (λ (rs : List Rule). Tells (descends_in parts (rs ++ c.args.hypotheses.now)
+    c.args.table.now c.args.certs.now) c.both_lower.result) rules c.both_lower.ensures)
 
 pub returns-clause-lowers : goal.returns-clause-lowers
 returns-clause-lowers c =
+    let parts = c.args.rules.now in
     let rules = c.as_slice.ensures ∙ ap (λ all. all.rules) c.parts-parts.ensures.parts in
-    lowers_all c.args.rules.now c.args.hypotheses.now c.args.table.now c.args.certs.now
+    lowers_all parts c.args.hypotheses.now c.args.table.now c.args.certs.now
     c.both_lower.result c.parts-parts.ensures.made c.requires (sym c.in_default.ensures)
-    (λ pairs are. c.both_lower.ensures pairs (subst
-    (λ (rs : List Rule). AreAllPairs (rs ++ c.args.hypotheses.now) pairs) (sym rules) are))
+    (subst (λ (rs : List Rule). Tells (descends_in parts (rs ++ c.args.hypotheses.now)
+    c.args.table.now c.args.certs.now) c.both_lower.result) rules c.both_lower.ensures)

@@ -35,8 +35,8 @@ returns-in-Ok-clause-steps g c =
 pub returns-in-Ok-clause-accepted : goal.returns-in-Ok-clause-accepted
 returns-in-Ok-clause-accepted g c = λ goal proof.
     IfOk-weaker c.log_with.result _ (IsAccepted c.args.rules.now goal)
-    (λ log same. accepted c.args.rules.now goal c.args.steps.now c.args.hypotheses.now log
-    c.in-Ok.ranking proof
+    (λ log same. accepted c.args.rules.now c.requires.no_domains goal c.args.steps.now
+    c.args.hypotheses.now log c.in-Ok.ranking proof
     (subst (λ lists. covering c.args.rules.now lists ≡ Covers)
     (sym (ap (λ (log : Log). log.covers) same)) c.in_ok-covers.ensures.covers)
     (ap (λ (log : Log). log.steps) same) (ap (λ (log : Log). log.table) same)

@@ -1,5 +1,5 @@
 use Rattle.std.proofs.Common.{◌<◌, ◌≤◌, refl, subst}
-use Rattle.rx_check.proofs.LineTurns.{end_judged, end_left, end_unranked}
+use Rattle.rx_check.proofs.LineTurns.{end_beyond, end_judged, end_left, end_unranked}
 use Rattle.rx_check.proofs.progress.Progress.judge_end.Goals as goal
 
 pub returns-in-Some : goal.returns-in-Some
@@ -13,8 +13,14 @@ returns-then-self-len c =
     (record { ranks = c.in_default.ensures.ranks; pairs = λ _. refl })
     (subst (λ n. c.args.self.now.lower < n) c.len.ensures c.if-self-len.true)
 
+pub returns-then-not-self : goal.returns-then-not-self
+returns-then-not-self c =
+    end_beyond c.args.rules.now c.args.place c.args.self.now c.args.self.now
+    (record { ranks = c.in_default.ensures.ranks; pairs = λ _. refl })
+    (subst (λ n. n ≤ c.args.self.now.lower) c.len.ensures c.if-self-len.false) c.if-not-self.true
+
 pub returns : goal.returns
 returns c =
     end_judged c.args.rules.now c.args.place c.args.self.now
     (record { ranks = c.in_default.ensures.ranks; pairs = λ _. refl })
-    (subst (λ n. n ≤ c.args.self.now.lower) c.len.ensures c.if-self-len.false)
+    (subst (λ n. n ≤ c.args.self.now.lower) c.len.ensures c.if-self-len.false) c.if-not-self.false

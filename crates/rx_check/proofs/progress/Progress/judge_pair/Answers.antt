@@ -14,5 +14,4 @@ returns-clause-judges c =
     pair_answers c.args.rules.now c.args.place c.args.cert.now c.args.self.now c.in_ok-next.next
     c.in_ok-failure.failure
     (record { ranks = c.in_default.ensures.ranks; pairs = λ _. refl }) c.in_ok-next.ensures
-    c.as_slice-pairs.result.now c.as_slice-pairs.ensures c.check_pair.result
-    c.in_ok-failure.ensures.ok c.check_pair.ensures
+    c.check_pair-outcome.result c.in_ok-failure.ensures.ok c.check_pair-outcome.ensures

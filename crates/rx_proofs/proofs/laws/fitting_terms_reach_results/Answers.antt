@@ -1,8 +1,0 @@
-use Rattle.rx_proofs.proofs.Runs.{fitting_ends, shown_ends}
-use Rattle.rx_proofs.proofs.laws.fitting_terms_reach_results.Goals as goal
-
-pub returns-clause-reach : goal.returns-clause-reach
-returns-clause-reach c = fitting_ends
-
-pub returns-clause-shown : goal.returns-clause-shown
-returns-clause-shown c = shown_ends
