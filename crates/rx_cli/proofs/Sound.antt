@@ -107,7 +107,8 @@ module _ (compared : Compared) (problem : Problem) (is_ready : IsReady compared)
       (accepted_ends_alike problem.rules goal log
       (translation_made compared.two.program is_ready.scoped compared.two.first compared.two.second
       problem.rules is.first is.second is.translated)
-      (ap (λ (parts : RuleParts). parts.domains) is.translated.parts_are) goal_fits (subst (λ g. IsAccepted problem.rules g log) is.goal accepted) a holds))
+      (ap (λ (parts : RuleParts). parts.domains) is.translated.parts_are) goal_fits
+      (subst (λ g. IsAccepted problem.rules g log) is.goal accepted) a holds))
       arguments long (meets_rows compared.two.program compared.precondition arguments
       is_ready.row_form met)
 
