@@ -192,7 +192,7 @@ problem_made f source problem (c, front, is) =
 module _ (problem : Problem) (made : IsWellMade problem.rules) (v w : Verdict) where
   one_on_log : (log : Log) → OnLog problem log v → OnLog problem log w → v ≡ w
   one_on_log log (said, has, v_is) (other, too, w_is) =
-      let (verdict, is, only) = one_verdict problem.rules problem.goal log made in
+      let (verdict, is, only) = one_verdict problem.rules problem.goal log in
       let same : said ≡ other = only said has ∙ sym (only other too) in
       v_is ∙ (ap of_log_verdict same ∙ sym w_is)
 
