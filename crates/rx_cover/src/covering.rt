@@ -146,9 +146,8 @@ fn examine_symbol(
 
 /// Whether the trees cover the symbol with that number: one tree for a point, and for a frame one
 /// over a returned value and one over each failure code, in this order. The path of each begins with
-/// the symbol's domain. NotCovered with the number
-/// exactly where there is no such symbol or its trees fail, Large exactly where they pass the
-/// limits first.
+/// the symbol's domain. NotCovered with the number exactly where there is no such symbol or its trees
+/// fail, Large exactly where they pass the limits first.
 pub fn cover_one(
     alloc: Global,
     rules: &RuleSet,
@@ -179,10 +178,10 @@ fn examine_lists(alloc: Global, rules: &RuleSet, lists: &[Items<CoverTree>]) -> 
 }
 
 /// Whether the lists of trees, one for each symbol in order, cover the rule set: then at each redex
-/// whose arguments meet the domain of its symbol some rule applies. NotCovered exactly at the first symbol
-/// whose trees fail or are missing, and at the number of symbols where there are more lists; Large
-/// exactly at the first symbol whose trees pass the limits before they fail, with none before it
-/// that fails. A tree is examined by recursion, as deep as it is.
+/// whose arguments meet the domain of its symbol some rule applies. NotCovered exactly at the first
+/// symbol whose trees fail or are missing, and at the number of symbols where there are more lists;
+/// Large exactly at the first symbol whose trees pass the limits before they fail, with none before
+/// it that fails. A tree is examined by recursion, as deep as it is.
 pub fn covers(alloc: Global, rules: &RuleSet, lists: &[Items<CoverTree>]) -> Result<(), CoverEnd>
     ensures exact { Tells (covering rules.now lists.now) result }
     ensures covered { OnOk result (IsCoveredOver (root_domains rules.now) rules.now) }
