@@ -8,7 +8,7 @@ use rx_term::Term;
 
 /// What a redex is, but for its symbol and its arguments.
 #[derive(Clone, Copy)]
-pub(crate) enum Redex {
+pub enum Redex {
     /// A call.
     Call,
     /// A frame over a returned value.
@@ -18,7 +18,7 @@ pub(crate) enum Redex {
 }
 
 /// Whether the term is such a redex of the symbol with that number.
-pub(crate) fn is_redex_of(term: &Term, sym: usize, redex: Redex) -> bool
+pub fn is_redex_of(term: &Term, sym: usize, redex: Redex) -> bool
     ensures { result ≡ same_shape (shape_of term.now) (shape_at (symbol sym) redex) }
 {
     match (term, redex) {

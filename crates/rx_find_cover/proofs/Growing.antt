@@ -24,10 +24,10 @@ use Rattle.rx_find_cover.specs.Coverable.{coverage, shapes_coverage, symbols_cov
 use Rattle.rx_find_cover.specs.Coverage.{and_then, noting}
 use Rattle.rx_find_cover.proofs.CoverageLaws.{and_more}
 use Rattle.rx_find_cover.specs.declared.built.Built.{Built}
-use Rattle.rx_find_cover.specs.Redexes.{shape_at}
+use Rattle.rx_cover.specs.Redexes.{shape_at}
 use Rattle.rx_find_cover.specs.Trees.{IsSmall, IsTree}
-use Rattle.rx_find_cover.specs.declared.redex.Redex.{Redex}
-use Rattle.rx_find_cover.specs.declared.redex.Redex.TheVariants.{OverFail}
+use Rattle.rx_cover.specs.declared.redex.Redex.{Redex}
+use Rattle.rx_cover.specs.declared.redex.Redex.TheVariants.{OverFail}
 
 -- ---- the trees of one symbol
 

@@ -3,5 +3,4 @@ pub mod Answers
 pub mod Coverable
 pub mod Coverage
 pub mod Example
-pub mod Redexes
 pub mod Trees

@@ -7,18 +7,17 @@ ghost use Rattle.rx_cover.specs.declared.cover_tree.CoverTree.TheVariants.{Split
 ghost use Rattle.rx_find_cover.specs.Answers.{outcome};
 ghost use Rattle.rx_find_cover.specs.Coverable.{covering_at, splitting, unless_used};
 ghost use Rattle.rx_find_cover.specs.Coverage.{formed_then, noting};
-ghost use Rattle.rx_find_cover.specs.Redexes.{shape_at};
+ghost use Rattle.rx_cover.specs.Redexes.{shape_at};
 ghost use Rattle.rx_find_cover.specs.Trees.{IsOwnRow, IsTree};
 ghost use Rattle.rx_row.specs.Negation.{negation, negation_within};
 ghost use Rattle.rx_solve.specs.Answers.{IsSolver};
 ghost use Rattle.rx_term.specs.Paired.{rules_of_shape};
 
 use crate::built::{Built, into_noted, noted_before};
-use crate::redex::Redex;
 use crate::splits::find_split_row;
 use crate::uses::{find_use, refute_path};
 use rx_cert::Cert;
-use rx_cover::CoverTree;
+use rx_cover::{CoverTree, Redex};
 use rx_fm::FmEnd;
 use rx_plain::{Boxed, NoMemory};
 use rx_poly::PolyEnd;

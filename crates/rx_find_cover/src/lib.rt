@@ -5,7 +5,6 @@ mod building;
 mod built;
 mod finding;
 mod laws;
-mod redex;
 mod shapes;
 mod splits;
 mod uses;

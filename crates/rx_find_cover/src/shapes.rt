@@ -2,17 +2,16 @@
 ghost use Rattle.std.specs.Prelude.{◌≡◌, true, map, IfOk, IfSome};
 ghost use Rattle.rx_cover.specs.Covering.{redex_shapes, symbol};
 ghost use Rattle.rx_find_cover.specs.Answers.{AreTrees, outcome};
+ghost use Rattle.rx_cover.specs.Redexes.{shape_at};
 ghost use Rattle.rx_find_cover.specs.Coverable.{shapes_coverage};
-ghost use Rattle.rx_find_cover.specs.Redexes.{shape_at};
 ghost use Rattle.rx_solve.specs.Answers.{IsSolver};
 ghost use Rattle.rx_term.specs.Domains.{domain_of};
 ghost use Rattle.rx_term.specs.declared.term.Sym.{Sym};
 
 use crate::building::build;
 use crate::built::Built;
-use crate::redex::Redex;
 use rx_cert::Cert;
-use rx_cover::{CoverTree, domain_rows};
+use rx_cover::{CoverTree, Redex, domain_rows};
 use rx_fm::FmEnd;
 use rx_plain::{Items, NoMemory};
 use rx_row::Constraint;

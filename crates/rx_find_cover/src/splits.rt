@@ -4,14 +4,14 @@ ghost use Rattle.std.specs.List.{find};
 ghost use Rattle.std.specs.Option.{option_map};
 ghost use Rattle.rx_cover.specs.Covering.{symbol};
 ghost use Rattle.rx_find_cover.specs.Coverable.{first_open, is_open};
-ghost use Rattle.rx_find_cover.specs.Redexes.{shape_at};
+ghost use Rattle.rx_cover.specs.Redexes.{shape_at};
 ghost use Rattle.rx_find_cover.specs.Trees.{IsOwnRow};
 ghost use Rattle.rx_row.specs.Membership.{stands_among};
 ghost use Rattle.rx_row.specs.Negation.{negation};
 ghost use Rattle.rx_term.specs.Paired.{rules_of_shape};
 
-use crate::redex::{Redex, is_redex_of};
 use rx_cert::is_plain;
+use rx_cover::{Redex, is_redex_of};
 use rx_row::{Constraint, Row};
 use rx_term::Rule;
 

@@ -6,7 +6,7 @@ use Rattle.rx_find_cover.proofs.CoverageLaws.{not_used, used_covers}
 use Rattle.rx_find_cover.proofs.TreeLaws.{refuted_trees, split_trees}
 use Rattle.rx_find_cover.specs.Answers.{outcome}
 use Rattle.rx_find_cover.specs.Coverage.{noting}
-use Rattle.rx_find_cover.specs.Redexes.{shape_at}
+use Rattle.rx_cover.specs.Redexes.{shape_at}
 use Rattle.rx_find_cover.proofs.building.+building.Goals as goal
 
 pub build-returns-then-is_some-clause-coverage : goal.build-returns-then-is_some-clause-coverage

@@ -2,7 +2,7 @@
 use Rattle.std.proofs.Common.{drop_of_length-le, map, subst}
 use Rattle.rx_cover.specs.Covering.{symbol}
 use Rattle.rx_find_cover.proofs.Growing.{Growing, all_grown}
-use Rattle.rx_find_cover.specs.Redexes.{shape_at}
+use Rattle.rx_cover.specs.Redexes.{shape_at}
 use Rattle.rx_find_cover.proofs.shapes.build_shapes.Goals as goal
 
 pub returns-clause-trees : goal.returns-clause-trees

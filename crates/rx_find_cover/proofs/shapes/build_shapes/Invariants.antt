@@ -5,7 +5,7 @@ use Rattle.rx_cover.specs.Covering.{symbol}
 use Rattle.rx_solve.specs.Answers.{IsSolver}
 use Rattle.rx_find_cover.specs.Coverable.{shapes_coverage}
 use Rattle.rx_find_cover.specs.Coverage.{noting}
-use Rattle.rx_find_cover.specs.Redexes.{shape_at}
+use Rattle.rx_cover.specs.Redexes.{shape_at}
 use Rattle.rx_find_cover.proofs.Growing.{Growing}
 use Rattle.rx_find_cover.proofs.shapes.build_shapes.Given as goal
 

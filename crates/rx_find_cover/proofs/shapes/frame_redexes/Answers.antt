@@ -2,7 +2,7 @@
 use Rattle.std.proofs.Common.{◌∙◌, ap, map, ◌++◌, ◌+◌, ◌-◌}
 use Rattle.rx_cover.specs.Covering.{over_failures}
 use Rattle.rx_find_cover.proofs.Growing.{over_one}
-use Rattle.rx_find_cover.specs.Redexes.{shape_at}
+use Rattle.rx_cover.specs.Redexes.{shape_at}
 use Rattle.rx_find_cover.proofs.shapes.frame_redexes.Goals as goal
 
 pub loop-before-preserved : goal.loop-before-preserved

@@ -2,7 +2,7 @@
 use Rattle.std.proofs.Common.{◌≡◌, ◌++◌, ◌+◌, ◌-◌, map, true}
 use Rattle.rx_cover.specs.Covering.{over_failures, redex_shapes}
 use Rattle.rx_term.specs.declared.term.Sym.{Sym}
-use Rattle.rx_find_cover.specs.Redexes.{shape_at}
+use Rattle.rx_cover.specs.Redexes.{shape_at}
 use Rattle.rx_find_cover.proofs.shapes.frame_redexes.Given as goal
 
 abbrev pub invariant-loop-before : goal.invariant-loop-before

@@ -3,7 +3,7 @@ use Rattle.std.proofs.Common.{◌≡◌, drop}
 use Rattle.rx_cover.specs.Covering.{symbol}
 use Rattle.rx_term.specs.Paired.{rules_of_shape}
 use Rattle.rx_find_cover.specs.Coverable.{first_open}
-use Rattle.rx_find_cover.specs.Redexes.{shape_at}
+use Rattle.rx_cover.specs.Redexes.{shape_at}
 use Rattle.rx_find_cover.proofs.splits.find_open_row.Given as goal
 
 abbrev pub invariant-loop-rule : goal.invariant-loop-rule

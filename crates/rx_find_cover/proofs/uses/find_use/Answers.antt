@@ -4,7 +4,7 @@ use Rattle.std.specs.Option.{IfSome}
 use Rattle.rx_cover.specs.Covering.{symbol}
 use Rattle.rx_term.proofs.Places.{at_some}
 use Rattle.rx_find_cover.proofs.TreeLaws.{use_trees}
-use Rattle.rx_find_cover.specs.Redexes.{shape_at}
+use Rattle.rx_cover.specs.Redexes.{shape_at}
 use Rattle.rx_find_cover.specs.Trees.{IsTree}
 use Rattle.rx_find_cover.proofs.uses.find_use.Goals as goal
 

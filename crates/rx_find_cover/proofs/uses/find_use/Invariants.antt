@@ -5,7 +5,7 @@ use Rattle.rx_solve.specs.Answers.{IsSolver}
 use Rattle.rx_term.specs.Paired.{rules_of_shape}
 use Rattle.rx_find_cover.specs.Coverable.{using}
 use Rattle.rx_find_cover.specs.Coverage.{noting}
-use Rattle.rx_find_cover.specs.Redexes.{shape_at}
+use Rattle.rx_cover.specs.Redexes.{shape_at}
 use Rattle.rx_find_cover.proofs.uses.find_use.Given as goal
 
 abbrev pub invariant-loop-number : goal.invariant-loop-number
