@@ -9,7 +9,6 @@ use Rattle.rx_pairs.specs.Pairs.{HasRoot}
 use Rattle.rx_proofs.specs.Runs.{NoStep, OneMore, Run}
 use Rattle.rx_proofs.proofs.Bridge.{applied_makes}
 use Rattle.rx_proofs.proofs.Rooted.{next_rooted}
-use Rattle.rx_proofs.proofs.Making as making
 use Rattle.rx_log.specs.Acceptance.{after_step, after_steps, ◌>>=◌}
 
 -- ---- steps are a run

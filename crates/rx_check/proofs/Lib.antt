@@ -9,5 +9,7 @@ pub mod LineOrder
 pub mod LineFaults
 pub mod LineTurns
 pub mod LineAnswers
+pub mod DomainLines
+pub mod DomainAnswers
 pub mod Fronts
 pub mod WholeLines

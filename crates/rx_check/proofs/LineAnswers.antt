@@ -1,6 +1,5 @@
 -- What the answers to calls make of a line.
-use Rattle.std.proofs.Common.{◌≡◌, ◌∙◌, ap, sym, subst, refl, ℕ, Option, Some, None, Result, Ok, Err, IfOk, OnErr, All, true, List, [], ◌∷◌, ◌++◌, ◌+◌, slice_get, is_some}
-use Rattle.rx_term.specs.declared.rule.Equation.{Equation}
+use Rattle.std.proofs.Common.{◌≡◌, ap, sym, subst, refl, ℕ, Option, None, Result, Ok, Err, IfOk, OnErr, All, List, ◌+◌, slice_get}
 use Rattle.rx_term.specs.declared.rule_set.RuleParts.{RuleParts}
 use Rattle.rx_inference.specs.Judging.{StepFault}
 use Rattle.rx_inference.specs.States.{State, applied}
@@ -11,28 +10,22 @@ use Rattle.rx_pairs.specs.Lowering.{Descends}
 use Rattle.rx_pairs.specs.Lowering as lowering
 use Rattle.rx_pairs.specs.Pairs.{HasRoot}
 use Rattle.rx_pairs.specs.declared.pair_cert.PairCert.{PairCert}
-use Rattle.rx_log.specs.Acceptance.{IsAccepted, after_step, once_covered}
-use Rattle.rx_log.specs.Places.{after, after_all}
-use Rattle.rx_log.specs.Reading.{blank, pushed}
+use Rattle.rx_log.specs.Acceptance.{after_step, once_covered}
 use Rattle.rx_log.specs.declared.line.Line.{Line}
 use Rattle.rx_log.specs.declared.line.Line.TheVariants as line
-use Rattle.rx_log.specs.declared.log.Log.{Log}
 use Rattle.rx_log.specs.declared.line_state.LineState.{LineState}
-use Rattle.rx_log.specs.declared.line_state.LineState.TheVariants.{AtHeader, Finished, InCovers}
+use Rattle.rx_log.specs.declared.line_state.LineState.TheVariants.{InCovers}
 use Rattle.rx_steps.specs.Faults.{Applies}
 use Rattle.rx_steps.specs.declared.step_end.StepEnd.{StepEnd}
 use Rattle.rx_steps.specs.declared.step_end.StepEnd.TheVariants as step_end
 use Rattle.rx_check.specs.Answers.{Finds, of_step_outcome}
-use Rattle.rx_check.specs.LineByLine.{IsFailureOf, Holds, IsOutcome, Judged, Judges, Stands, StandsFor, log_of, once_lower, one_lower, passed}
+use Rattle.rx_check.specs.LineByLine.{IsFailureOf, IsOutcome, Judged, Judges, once_lower, one_lower, passed}
 use Rattle.rx_check.specs.declared.check_end.CheckEnd.{CheckEnd}
 use Rattle.rx_check.specs.declared.check_end.CheckEnd.TheVariants as end
 use Rattle.rx_check.specs.declared.progress.Progress.{Progress}
-use Rattle.rx_check.specs.declared.replayer.Replayer.{Replayer}
 use Rattle.rx_check.proofs.Kept.{step_rooted}
 use Rattle.rx_check.proofs.LineFaults.{ends_of}
-use Rattle.rx_log.proofs.PlaceLaws.{after_all-append}
-use Rattle.rx_check.proofs.LineOrder.{pushed_all-append}
-use Rattle.rx_check.proofs.LineTurns.{AsksRanks, cover_judged, failed_stands, pair_judged}
+use Rattle.rx_check.proofs.LineTurns.{AsksRanks, cover_judged, pair_judged}
 
 -- the trees of a symbol, examined
 pub cover_answers : {E : Type 0} (parts : RuleParts) (place : LineState) (next : ℕ)
@@ -98,43 +91,9 @@ pair_answers parts place cert old lower failure asks next outcome is found =
     (one_lower old.listing.whole old.table (slice_get old.listing.pairs old.lower) cert) Descends)
     passed) outcome failure is found)
 
--- ---- what is kept
-
--- after a failure nothing changes
-pub still_stands : (parts : RuleParts) (goal : Equation) (place : LineState) (log : Log)
-    (progress : Progress) (failure : Option CheckEnd)
-    (next : Line) (symbol : ℕ) (behind : LineState) → is_some failure ≡ true →
-    Stands parts goal place log progress failure
-    → after place (next, symbol) ≡ Some behind →
-    Stands parts goal behind (pushed next log) progress failure
-still_stands parts goal place log progress None next symbol behind some stands e = absurd cc
-still_stands parts goal place log progress (Some end) next symbol behind some stands e =
-    failed_stands parts goal place log next symbol behind end stands e
-
--- one line more
-pub line_stands : (parts : RuleParts) (goal : Equation) (its : List (Line × ℕ)) (next : Line)
-    (symbol : ℕ) (behind : LineState) (old new : Replayer)
-    → StandsFor old parts goal its → after old.place (next, symbol) ≡ Some behind → new.place ≡
-    behind
-    → Stands parts goal behind (pushed next (log_of its)) new.progress new.failure →
-    StandsFor new parts goal (its ++ (next, symbol) ∷ [])
-line_stands parts goal its next symbol behind old new before e at stands = record {
-  arrives = after_all-append (Some AtHeader) its ((next, symbol) ∷ [])
-      ∙ ap (λ place. after_all place ((next, symbol) ∷ [])) before.arrives ∙ e ∙ ap Some (sym at);
-  holds =
-      subst (λ place. Stands parts goal place (log_of (its ++ (next, symbol) ∷ [])) new.progress
-      new.failure) (sym at)
-      (subst (λ log. Stands parts goal behind log new.progress new.failure)
-      (sym (pushed_all-append blank its ((next, symbol) ∷ []))) stands);
-}
-
--- where the last line has come and nothing failed, the log is accepted
-pub all_accepted : (parts : RuleParts) (goal : Equation) (its : List (Line × ℕ))
-    (replayer : Replayer) → StandsFor replayer parts goal its
-    → replayer.place ≡ Finished → replayer.failure ≡ None → IsAccepted parts goal (log_of its)
-all_accepted parts goal its replayer stands at none =
-    let holds : Holds parts goal Finished (log_of its) replayer.progress =
-    subst (λ place. Holds parts goal place (log_of its) replayer.progress) at
-    (subst (λ failure. Stands parts goal replayer.place (log_of its) replayer.progress failure) none
-    stands.holds) in
-    holds.known
+-- where there is no memory for a line, what is kept stays
+pub unjudged : {E : Type 0} (parts : RuleParts) (place : LineState) (next : Line)
+    (old new : Progress) (r : Result (Option CheckEnd) E) → Judges parts place next old new r
+    → OnErr r (new ≡ old)
+unjudged parts place next old new (Ok failure) judges = tt
+unjudged parts place next old new (Err none) judges = judges

@@ -5,11 +5,13 @@ use Rattle.rx_term.specs.declared.rule.Equation.{Equation}
 use Rattle.rx_term.specs.declared.rule_set.RuleParts.{RuleParts}
 use Rattle.rx_inference.specs.States.{State}
 use Rattle.rx_cover.specs.Covering.{Covering, Covers, Fails, PassesLimits, covering}
+use Rattle.rx_domain.specs.Keeping.{Keeping, Keeps}
+use Rattle.rx_domain.specs.Keeping as keep
 use Rattle.rx_pairs.specs.Lowering.{Descends, Descent}
 use Rattle.rx_pairs.specs.Lowering as lowering
 use Rattle.rx_pairs.specs.Ranks.{bad_rank}
 use Rattle.rx_pairs.specs.declared.table.RankTable.{RankTable}
-use Rattle.rx_log.specs.Acceptance.{AtCover, AtPair, Checked, HasVerdict, LogFault, ◌>>=◌, after_steps, concluded, kept, kept_by, of_descent, once_covered, once_finished, once_ranked, start}
+use Rattle.rx_log.specs.Acceptance.{AtCover, AtKeep, AtPair, Checked, LogFault, ◌>>=◌, after_steps, concluded, kept_by, kept_over, of_descent, once_covered, once_finished, once_kept, once_ranked, start, verdict_over}
 use Rattle.rx_log.specs.Acceptance as log_fault
 use Rattle.rx_log.specs.declared.log.Log.{Log}
 use Rattle.rx_log.specs.declared.line_state.LineState.{LineState}
@@ -34,6 +36,8 @@ ends_of x check (Err end) failure is found =
 pub names_fault : (end : CheckEnd) → (end ≡ ends.NoMemory → ⊥) → (fault : LogFault) ×
     (named end ≡ Some fault)
 names_fault (ends.Step k end) some = (log_fault.Refused k (fault end), refl)
+names_fault (ends.BadDomain f) some = (log_fault.BadDomain f, refl)
+names_fault (ends.NotKept k) some = (log_fault.NotKept k, refl)
 names_fault (ends.Unfinished n) some = (log_fault.Unfinished n, refl)
 names_fault (ends.NotCovered f) some = (log_fault.NotCovered f, refl)
 names_fault (ends.BadRanks f) some = (log_fault.BadRanks f, refl)
@@ -42,6 +46,18 @@ names_fault (ends.Large p) some = (log_fault.PassesLimits (place_of p), refl)
 names_fault ends.NoMemory some = absurd (some refl)
 
 -- where a check fails, so does what follows it
+pub keeps_fail : {A : Type 0} (found : Keeping) (next : Checked A) (fault : LogFault)
+    → once_kept found passed ≡ Err fault → once_kept found next ≡ Err fault
+keeps_fail Keeps next fault e = absurd cc
+keeps_fail (keep.Fails k) next fault e = let is : log_fault.NotKept k ≡ fault = cc in ap Err is
+keeps_fail (keep.PassesLimits k) next fault e =
+    let is : log_fault.PassesLimits (AtKeep k) ≡ fault = cc in ap Err is
+
+pub keeps_hold : (found : Keeping) → once_kept found passed ≡ passed → found ≡ Keeps
+keeps_hold Keeps e = refl
+keeps_hold (keep.Fails k) e = absurd cc
+keeps_hold (keep.PassesLimits k) e = absurd cc
+
 covers_fail : {A : Type 0} (found : Covering) (next : Checked A) (fault : LogFault)
     → once_covered found passed ≡ Err fault → once_covered found next ≡ Err fault
 covers_fail Covers next fault e = absurd cc
@@ -80,13 +96,13 @@ pairs_hold (lowering.PassesLimits i) e = absurd cc
 
 module _ (parts : RuleParts) (goal : Equation) (whole : Log) where
   -- before the pairs, a fault decides
-  pub fails_before : (fault : LogFault) → kept parts goal whole ≡ Err fault →
-      HasVerdict parts goal whole (log_fault.Fails fault)
+  pub fails_before : (fault : LogFault) → kept_over parts goal whole ≡ Err fault →
+      verdict_over parts goal whole ≡ log_fault.Fails fault
   fails_before fault e = ap (concluded parts whole) e
 
   -- so does one of the covers
   pub uncovered : (fault : LogFault) → once_covered (covering parts whole.covers) passed ≡ Err fault
-      → kept parts goal whole ≡ Err fault
+      → kept_over parts goal whole ≡ Err fault
   uncovered fault e =
       covers_fail (covering parts whole.covers)
       (after_steps parts 0 (start goal) whole.steps >>= kept_by parts whole.table) fault e
@@ -94,7 +110,7 @@ module _ (parts : RuleParts) (goal : Equation) (whole : Log) where
   module _ (covers : covering parts whole.covers ≡ Covers) where
     -- one of the steps
     pub refused : (fault : LogFault) → after_steps parts 0 (start goal) whole.steps ≡ Err fault →
-        kept parts goal whole ≡ Err fault
+        kept_over parts goal whole ≡ Err fault
     refused fault e =
         ap (λ found. once_covered found (after_steps parts 0 (start goal) whole.steps >>= kept_by
         parts whole.table)) covers
@@ -102,7 +118,7 @@ module _ (parts : RuleParts) (goal : Equation) (whole : Log) where
 
     -- and after them what the last state and the ranks come to
     pub kept_behind : (state : State) → after_steps parts 0 (start goal) whole.steps ≡ Ok state
-        → kept parts goal whole ≡ kept_by parts whole.table state
+        → kept_over parts goal whole ≡ kept_by parts whole.table state
     kept_behind state e =
         ap (λ found. once_covered found (after_steps parts 0 (start goal) whole.steps >>= kept_by
         parts whole.table)) covers
@@ -128,7 +144,7 @@ finished parts table state none =
 -- logs with the same covers, steps and ranks keep the same
 pub kept_same : (parts : RuleParts) (goal : Equation) (log whole : Log) → whole.covers ≡
     log.covers → whole.steps ≡ log.steps → whole.table ≡ log.table
-    → kept parts goal whole ≡ kept parts goal log
+    → kept_over parts goal whole ≡ kept_over parts goal log
 kept_same parts goal log whole c s t =
     ap (λ covers. once_covered (covering parts covers)
     (after_steps parts 0 (start goal) whole.steps >>= kept_by parts whole.table)) c
@@ -142,7 +158,7 @@ kept_same parts goal log whole c s t =
 pub failed_at : (parts : RuleParts) (goal : Equation) (place : LineState) (log : Log)
     (end : CheckEnd)
     (fault : LogFault) → named end ≡ Some fault
-    → ((whole : Log) → GoesOn place log whole → kept parts goal whole ≡ Err fault) →
+    → ((whole : Log) → GoesOn place log whole → kept_over parts goal whole ≡ Err fault) →
     FailsWith parts goal place log end
 failed_at parts goal place log end fault names fails = record {
   fault = fault;

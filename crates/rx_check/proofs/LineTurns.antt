@@ -11,6 +11,8 @@ use Rattle.rx_term.specs.declared.rule_set.SymInfo.{SymInfo}
 use Rattle.rx_inference.specs.States.{State, applied}
 use Rattle.rx_inference.specs.declared.step.Step.{Step}
 use Rattle.rx_cert.specs.Findings.{Beyond, No, Said, Yes}
+use Rattle.rx_cert.specs.declared.cert.Cert.{Cert}
+use Rattle.rx_row.specs.declared.row.Row.{Row}
 use Rattle.rx_cover.specs.Covering.{Covering, Covers, covering, covering_from, goes_on, one_covered, symbol_finding}
 use Rattle.rx_cover.specs.declared.cover_tree.CoverTree.{CoverTree}
 use Rattle.rx_pairs.specs.Inside.{descent_in, listing}
@@ -21,38 +23,76 @@ use Rattle.rx_pairs.specs.Ranks.{bad_rank}
 use Rattle.rx_pairs.specs.declared.pair.Pair.{Pair}
 use Rattle.rx_pairs.specs.declared.pair_cert.PairCert.{PairCert}
 use Rattle.rx_pairs.specs.declared.table.RankTable.{RankTable}
-use Rattle.rx_log.specs.Acceptance.{Accepted, AtPair, Checked, Fails, LogFault, PassesLimits, Verdict, ◌>>=◌, after_step, after_steps, concluded, kept_by, kept, of_descent, once_covered, once_ranked, start, verdict_on}
+use Rattle.rx_log.specs.Acceptance.{Accepted, AtPair, Checked, Fails, LogFault, PassesLimits, Verdict, ◌>>=◌, after_step, after_steps, concluded, kept_by, kept_over, of_descent, once_covered, once_ranked, start, verdict_over}
 use Rattle.rx_log.specs.Acceptance as log_fault
 use Rattle.rx_log.specs.Places.{after}
 use Rattle.rx_log.specs.Reading.{pushed}
-use Rattle.rx_log.specs.declared.line.Line.{Line}
 use Rattle.rx_log.specs.declared.line.Line.TheVariants as line
 use Rattle.rx_log.specs.declared.log.Log.{Log}
 use Rattle.rx_log.specs.declared.line_state.LineState.{LineState}
-use Rattle.rx_log.specs.declared.line_state.LineState.TheVariants.{AtHeader, InCovers, InSteps, InRanks, InPairs, Finished}
+use Rattle.rx_log.specs.declared.line_state.LineState.TheVariants.{AtHeader, InDomains, InKeeps, InCovers, InSteps, InRanks, InPairs, Finished}
 use Rattle.rx_check.specs.Answers.{named}
-use Rattle.rx_check.specs.LineByLine.{Ends, IsOpen, IsRanked, IsOutcome, Judges, passed, FailsWith, Holds, IsKnown, Stands, once_lower, one_lower}
+use Rattle.rx_check.specs.LineByLine.{Ends, IsOpen, IsRanked, IsOutcome, Judges, passed, Holds, IsKnown, Stands, once_lower, one_lower}
 use Rattle.rx_check.specs.declared.check_end.CheckEnd.{CheckEnd}
 use Rattle.rx_check.specs.declared.check_end.CheckEnd.TheVariants as end
 use Rattle.rx_check.specs.declared.check_end.LimitAt.TheVariants as limit
 use Rattle.rx_check.specs.declared.progress.Progress.{Progress}
 use Rattle.rx_check.proofs.LineFaults.{covers_hold, failed_at, finished, kept_behind, kept_same, pairs_fail, ranks_fail, ranks_hold, refused, uncovered, unfinished}
-use Rattle.rx_check.proofs.LineOrder.{after_cover, after_rank, goes_on_before}
+use Rattle.rx_check.proofs.LineOrder.{after_cover, after_rank}
 
--- ---- the header
+-- ---- lines of which nothing is judged here
 
-pub header_stands : (parts : RuleParts) (place : LineState) (progress : Progress) (goal : Equation)
-    (log : Log) (symbol : ℕ) (behind : LineState)
+pub header_stands : (parts : RuleParts) (place : LineState) (progress : Progress)
+    (goal : Equation) (log : Log) (symbol : ℕ) (behind : LineState)
     → Holds parts goal place log progress → after place (line.Header, symbol) ≡ Some behind →
-    Stands parts goal behind log progress None
-header_stands parts AtHeader progress goal log symbol behind holds e =
-    subst (λ b. Holds parts goal b log progress) (same_Some (InCovers 0) behind e)
-    (record { steps = holds.steps; table = holds.table; known = holds.known })
+    Stands parts goal behind (pushed line.Header log) progress None
+header_stands parts AtHeader progress goal log symbol behind holds e = absurd holds.known
+header_stands parts (InDomains n) progress goal log symbol behind holds e = absurd holds.known
+header_stands parts InKeeps progress goal log symbol behind holds e = absurd holds.known
 header_stands parts (InCovers n) progress goal log symbol behind holds e = absurd cc
 header_stands parts InSteps progress goal log symbol behind holds e = absurd cc
 header_stands parts (InRanks c n) progress goal log symbol behind holds e = absurd cc
 header_stands parts InPairs progress goal log symbol behind holds e = absurd cc
 header_stands parts Finished progress goal log symbol behind holds e = absurd cc
+
+pub header2_stands : (parts : RuleParts) (place : LineState) (progress : Progress)
+    (goal : Equation) (log : Log) (symbol : ℕ) (behind : LineState)
+    → Holds parts goal place log progress → after place (line.Header2, symbol) ≡ Some behind →
+    Stands parts goal behind (pushed line.Header2 log) progress None
+header2_stands parts AtHeader progress goal log symbol behind holds e = absurd holds.known
+header2_stands parts (InDomains n) progress goal log symbol behind holds e = absurd holds.known
+header2_stands parts InKeeps progress goal log symbol behind holds e = absurd holds.known
+header2_stands parts (InCovers n) progress goal log symbol behind holds e = absurd cc
+header2_stands parts InSteps progress goal log symbol behind holds e = absurd cc
+header2_stands parts (InRanks c n) progress goal log symbol behind holds e = absurd cc
+header2_stands parts InPairs progress goal log symbol behind holds e = absurd cc
+header2_stands parts Finished progress goal log symbol behind holds e = absurd cc
+
+pub domain_stands : (parts : RuleParts) (place : LineState) (rows : List Row) (progress : Progress)
+    (goal : Equation) (log : Log) (symbol : ℕ) (behind : LineState)
+    → Holds parts goal place log progress → after place (line.Domain rows, symbol) ≡ Some behind →
+    Stands parts goal behind (pushed (line.Domain rows) log) progress None
+domain_stands parts AtHeader rows progress goal log symbol behind holds e = absurd holds.known
+domain_stands parts (InDomains n) rows progress goal log symbol behind holds e = absurd holds.known
+domain_stands parts InKeeps rows progress goal log symbol behind holds e = absurd holds.known
+domain_stands parts (InCovers n) rows progress goal log symbol behind holds e = absurd cc
+domain_stands parts InSteps rows progress goal log symbol behind holds e = absurd cc
+domain_stands parts (InRanks c n) rows progress goal log symbol behind holds e = absurd cc
+domain_stands parts InPairs rows progress goal log symbol behind holds e = absurd cc
+domain_stands parts Finished rows progress goal log symbol behind holds e = absurd cc
+
+pub keep_stands : (parts : RuleParts) (place : LineState) (certs : List Cert) (progress : Progress)
+    (goal : Equation) (log : Log) (symbol : ℕ) (behind : LineState)
+    → Holds parts goal place log progress → after place (line.Keep certs, symbol) ≡ Some behind →
+    Stands parts goal behind (pushed (line.Keep certs) log) progress None
+keep_stands parts AtHeader certs progress goal log symbol behind holds e = absurd holds.known
+keep_stands parts (InDomains n) certs progress goal log symbol behind holds e = absurd holds.known
+keep_stands parts InKeeps certs progress goal log symbol behind holds e = absurd holds.known
+keep_stands parts (InCovers n) certs progress goal log symbol behind holds e = absurd cc
+keep_stands parts InSteps certs progress goal log symbol behind holds e = absurd cc
+keep_stands parts (InRanks c n) certs progress goal log symbol behind holds e = absurd cc
+keep_stands parts InPairs certs progress goal log symbol behind holds e = absurd cc
+keep_stands parts Finished certs progress goal log symbol behind holds e = absurd cc
 
 -- ---- covers
 
@@ -130,6 +170,10 @@ pub cover_judged : (parts : RuleParts) (place : LineState) (trees : List CoverTr
     → after place (line.Cover trees, symbol) ≡ Some behind →
     Stands parts goal behind (pushed (line.Cover trees) log) progress failure
 cover_judged parts AtHeader trees progress failure ends goal log symbol behind holds e = absurd cc
+cover_judged parts (InDomains n) trees progress failure ends goal log symbol behind holds e =
+    absurd holds.known
+cover_judged parts InKeeps trees progress failure ends goal log symbol behind holds e =
+    absurd holds.known
 cover_judged parts (InCovers n) trees progress failure ends goal log symbol behind holds e =
     subst (λ b. Stands parts goal b (pushed (line.Cover trees) log) progress failure)
     (after_cover n trees symbol behind e)
@@ -146,6 +190,8 @@ step_comes : (place : LineState) (step : Step) (symbol : ℕ) (behind : LineStat
     after place (line.Step step, symbol) ≡ Some behind
     → IsOpen place × (InSteps ≡ behind)
 step_comes AtHeader step symbol behind e = absurd cc
+step_comes (InDomains n) step symbol behind e = (tt, same_Some InSteps behind e)
+step_comes InKeeps step symbol behind e = (tt, same_Some InSteps behind e)
 step_comes (InCovers n) step symbol behind e = (tt, same_Some InSteps behind e)
 step_comes InSteps step symbol behind e = (tt, same_Some InSteps behind e)
 step_comes (InRanks c n) step symbol behind e = absurd cc
@@ -156,6 +202,8 @@ ranks_come : (place : LineState) (columns symbol : ℕ) (behind : LineState) →
     after place (line.Ranks columns, symbol) ≡ Some behind
     → IsOpen place × (InRanks columns 0 ≡ behind)
 ranks_come AtHeader columns symbol behind e = absurd cc
+ranks_come (InDomains n) columns symbol behind e = (tt, same_Some (InRanks columns 0) behind e)
+ranks_come InKeeps columns symbol behind e = (tt, same_Some (InRanks columns 0) behind e)
 ranks_come (InCovers n) columns symbol behind e = (tt, same_Some (InRanks columns 0) behind e)
 ranks_come InSteps columns symbol behind e = (tt, same_Some (InRanks columns 0) behind e)
 ranks_come (InRanks c n) columns symbol behind e = absurd cc
@@ -176,6 +224,8 @@ covers_end : (parts : RuleParts) (goal : Equation) (place : LineState) (log : Lo
     → Asks parts place failure → Holds parts goal place log progress
     → IsOutcome failure (once_covered (covering parts log.covers) passed) × (log.pairs ≡ [])
 covers_end parts goal AtHeader log progress failure there asks holds = absurd there
+covers_end parts goal (InDomains n) log progress failure there asks holds = absurd holds.known
+covers_end parts goal InKeeps log progress failure there asks holds = absurd holds.known
 covers_end parts goal (InCovers n) log progress failure there asks holds =
     let is : covering parts log.covers ≡ covering_from parts n (drop n parts.symbols) [] =
     ap (covering parts) (sym (append-nil log.covers)) ∙ holds.known.0 [] in (
@@ -355,6 +405,8 @@ pub rank_stands : (parts : RuleParts) (place : LineState) (rank : List Body) (ol
     → after place (line.Rank rank, symbol) ≡ Some behind →
     Stands parts goal behind (pushed (line.Rank rank) log) new None
 rank_stands parts AtHeader rank old new is goal log symbol behind holds e = absurd cc
+rank_stands parts (InDomains n) rank old new is goal log symbol behind holds e = absurd cc
+rank_stands parts InKeeps rank old new is goal log symbol behind holds e = absurd cc
 rank_stands parts (InCovers n) rank old new is goal log symbol behind holds e = absurd cc
 rank_stands parts InSteps rank old new is goal log symbol behind holds e = absurd cc
 rank_stands parts (InRanks c n) rank old new is goal log symbol behind holds e =
@@ -383,6 +435,8 @@ pair_comes : (place : LineState) (cert : PairCert) (symbol : ℕ) (behind : Line
     after place (line.Pair cert, symbol) ≡ Some behind
     → IsRanked place × (InPairs ≡ behind)
 pair_comes AtHeader cert symbol behind e = absurd cc
+pair_comes (InDomains n) cert symbol behind e = absurd cc
+pair_comes InKeeps cert symbol behind e = absurd cc
 pair_comes (InCovers n) cert symbol behind e = absurd cc
 pair_comes InSteps cert symbol behind e = absurd cc
 pair_comes (InRanks c n) cert symbol behind e = (tt, same_Some InPairs behind e)
@@ -393,6 +447,8 @@ end_comes : (place : LineState) (symbol : ℕ) (behind : LineState) → after pl
     Some behind
     → IsRanked place × (Finished ≡ behind)
 end_comes AtHeader symbol behind e = absurd cc
+end_comes (InDomains n) symbol behind e = absurd cc
+end_comes InKeeps symbol behind e = absurd cc
 end_comes (InCovers n) symbol behind e = absurd cc
 end_comes InSteps symbol behind e = absurd cc
 end_comes (InRanks c n) symbol behind e = (tt, same_Some Finished behind e)
@@ -409,7 +465,7 @@ pub record AsksRanks (parts : RuleParts) (place : LineState) (table : RankTable)
 module _ (parts : RuleParts) (goal : Equation) (c n : ℕ) (log : Log) (progress : Progress)
     (holds : Holds parts goal (InRanks c n) log progress) where
   -- the ranks decide
-  kept_now : kept parts goal log ≡ once_ranked (bad_rank parts log.table)
+  kept_now : kept_over parts goal log ≡ once_ranked (bad_rank parts log.table)
       (Ok progress.state.hypotheses)
   kept_now =
       kept_behind parts goal log holds.known.0.covers progress.state
@@ -433,7 +489,7 @@ module _ (parts : RuleParts) (goal : Equation) (c n : ℕ) (log : Log) (progress
       )
 
   ranks_bad : (fault : LogFault) → once_ranked (bad_rank parts progress.table) passed ≡ Err fault →
-      kept parts goal log ≡ Err fault
+      kept_over parts goal log ≡ Err fault
   ranks_bad fault e =
       kept_now ∙ ranks_fail (bad_rank parts log.table) (Ok progress.state.hypotheses) fault
       (ap (λ table. once_ranked (bad_rank parts table) passed) (sym holds.table) ∙ e)
@@ -445,6 +501,8 @@ ranked : (parts : RuleParts) (goal : Equation) (place : LineState) (log : Log) (
     → AsksRanks parts place progress.table None → Holds parts goal place log progress →
     IsKnown parts goal InPairs log progress
 ranked parts goal AtHeader log progress is asks holds = absurd is
+ranked parts goal (InDomains n) log progress is asks holds = absurd is
+ranked parts goal InKeeps log progress is asks holds = absurd is
 ranked parts goal (InCovers n) log progress is asks holds = absurd is
 ranked parts goal InSteps log progress is asks holds = absurd is
 ranked parts goal (InRanks c n) log progress is asks holds =
@@ -457,8 +515,10 @@ unranked : (parts : RuleParts) (goal : Equation) (place : LineState) (log : Log)
     (progress : Progress)
     (end : CheckEnd) → IsRanked place
     → AsksRanks parts place progress.table (Some end) → Holds parts goal place log progress
-    → (fault : LogFault) × (named end ≡ Some fault) × (kept parts goal log ≡ Err fault)
+    → (fault : LogFault) × (named end ≡ Some fault) × (kept_over parts goal log ≡ Err fault)
 unranked parts goal AtHeader log progress end is asks holds = absurd is
+unranked parts goal (InDomains n) log progress end is asks holds = absurd is
+unranked parts goal InKeeps log progress end is asks holds = absurd is
 unranked parts goal (InCovers n) log progress end is asks holds = absurd is
 unranked parts goal InSteps log progress end is asks holds = absurd is
 unranked parts goal (InRanks c n) log progress end is asks holds =
@@ -495,7 +555,7 @@ end_unranked parts place old new end asks goal log symbol behind holds e =
     let ends = unranked parts goal place log old end comes.0 asks holds in
     subst (λ b. Stands parts goal b log new (Some end)) comes.1
     (failed_at parts goal Finished log end ends.0 ends.1
-    (λ whole on. ap (kept parts goal) on ∙ ends.2))
+    (λ whole on. ap (kept_over parts goal) on ∙ ends.2))
 
 -- ---- pairs
 
@@ -550,11 +610,11 @@ module _ (table : RankTable) (number : ℕ) (listing : Listing) (cert : PairCert
 
 -- where nothing else fails, the pairs that are kept decide
 module _ (parts : RuleParts) (goal : Equation) (whole : Log) (old : Progress)
-    (keeps : kept parts goal whole ≡ Ok old.state.hypotheses)
+    (keeps : kept_over parts goal whole ≡ Ok old.state.hypotheses)
     (all : listing parts (parts.rules ++ old.state.hypotheses) ≡ old.listing) where
   pairs_decide : (verdict : Verdict)
       → of_descent (descent_in whole.table old.listing.whole 0 old.listing.pairs whole.pairs) ≡
-      verdict → verdict_on parts goal whole ≡ verdict
+      verdict → verdict_over parts goal whole ≡ verdict
   pairs_decide verdict is =
       ap (concluded parts whole) keeps
       ∙ ap (λ (l : Listing). of_descent (descent_in whole.table l.whole 0 l.pairs whole.pairs)) all
@@ -621,7 +681,7 @@ module _ (parts : RuleParts) (goal : Equation) (place : LineState) (log : Log) (
     fault = fault;
     names = names;
     fails = λ whole on.
-        pairs_decide parts goal whole old (ap (kept parts goal) on ∙ known.0) known.1.0
+        pairs_decide parts goal whole old (ap (kept_over parts goal) on ∙ known.0) known.1.0
         (Fails fault)
         (ap (λ (l : Log). of_descent (descent_of l.table l.pairs)) on
         ∙ ap of_descent descent_now ∙ is);
@@ -729,16 +789,3 @@ pub end_judged : (parts : RuleParts) (place : LineState) (old : Progress) →
 end_judged parts place old asks none whole =
     end_by parts place old old None asks
     (λ goal log holds known. all_stand parts goal place log old holds known none whole)
-
--- ---- after a failure
-
-pub failed_stands : (parts : RuleParts) (goal : Equation) (place : LineState) (log : Log)
-    (next : Line)
-    (symbol : ℕ) (behind : LineState) (end : CheckEnd)
-    → FailsWith parts goal place log end → after place (next, symbol) ≡ Some behind →
-    FailsWith parts goal behind (pushed next log) end
-failed_stands parts goal place log next symbol behind end failed e = record {
-  fault = failed.fault;
-  names = failed.names;
-  fails = λ whole on. failed.fails whole (goes_on_before log whole symbol behind place next e on);
-}

@@ -1,16 +1,22 @@
 -- Each proof is that of an accepted log.
-use Rattle.std.proofs.Common.{◌≡◌, ℕ, ◌+◌, Ok, List, [], ◌∷◌, ◌++◌, refl, sym, ap, subst, ◌∙◌}
+use Rattle.std.proofs.Common.{◌≡◌, ℕ, ◌+◌, Option, Some, None, Ok, List, [], ◌∷◌, refl, sym, ap, subst, ◌∙◌}
 use Rattle.rx_term.specs.declared.rule.Equation.{Equation}
 use Rattle.rx_term.specs.declared.rule.Rule.{Rule}
 use Rattle.rx_term.specs.declared.rule_set.RuleParts.{RuleParts}
+use Rattle.rx_domain.specs.Keeping.{Keeping, keeping}
+use Rattle.rx_domain.specs.Setting.{bad_domain, with_domains}
+use Rattle.rx_domain.specs.declared.domains.Domains.{Domains}
 use Rattle.rx_inference.specs.States.{State}
 use Rattle.rx_inference.specs.declared.step.Step.{Step}
 use Rattle.rx_pairs.specs.declared.table.RankTable.{RankTable}
 use Rattle.rx_proofs.specs.Example.{alike, example, hypothesis, table}
-use Rattle.rx_proofs.specs.Runs.{IsProof, NoStep, OneMore, Run, finished, start}
+use Rattle.rx_proofs.specs.Runs.{IsKept, IsProof, NoDomains, NoStep, OneMore, Run, Shown, finished, start}
 use Rattle.rx_proofs.proofs.Example.{example_proof}
-use Rattle.rx_log.specs.Acceptance.{Checked, IsAccepted, ◌>>=◌, after_step, after_steps, concluded, kept, kept_by, of_descent, once_covered, once_ranked}
+use Rattle.rx_log.specs.Acceptance.{Checked, Accepted, IsAccepted, ◌>>=◌, after_step, after_steps, concluded, kept, kept_by, kept_over, of_descent, once_covered, once_inside, once_kept, once_lawful, once_ranked, used}
 use Rattle.rx_log.specs.declared.log.Log.{Log}
+use Rattle.rx_row.specs.declared.row.Row.{Row}
+use Rattle.rx_check.specs.LineByLine.{passed}
+use Rattle.rx_check.proofs.DomainLines.{inside_passes, verdict_inside}
 
 -- the steps of a run
 steps_of : (parts : RuleParts) (end state : State) (k : ℕ) → Run parts end state
@@ -24,35 +30,80 @@ steps_of parts end _ k (OneMore state next step is run) =
     )
 
 module _ (parts : RuleParts) (goal : Equation) (hypotheses : List Rule) (ranks : RankTable)
-    (proof : IsProof parts goal hypotheses ranks) where
-  abbrev log_with : List Step → Log
-  log_with steps =
-      record { covers = proof.trees; steps = steps; table = ranks; pairs = proof.certs }
+    (domains : Option Domains) (passes : once_inside parts goal domains passed ≡ passed)
+    (proof : IsProof (used parts domains) goal hypotheses ranks) where
+  abbrev parts_now : RuleParts
+  parts_now = used parts domains
 
-  kept_with : (steps : List Step) → after_steps parts 0 (start goal) steps ≡
+  abbrev log_with : List Step → Log
+  log_with steps = record {
+    domains = domains;
+    covers = proof.trees;
+    steps = steps;
+    table = ranks;
+    pairs = proof.certs;
+  }
+
+  kept_with : (steps : List Step) → after_steps parts_now 0 (start goal) steps ≡
       Ok (finished hypotheses)
-      → kept parts goal (log_with steps) ≡ Ok hypotheses
+      → kept_over parts_now goal (log_with steps) ≡ Ok hypotheses
   kept_with steps is =
-      ap (λ found. once_covered found (after_steps parts 0 (start goal) steps >>= kept_by parts
+      ap (λ found. once_covered found (after_steps parts_now 0 (start goal) steps >>= kept_by parts_now
       ranks)) proof.covers
-      ∙ ap (λ (check : Checked State). check >>= kept_by parts ranks) is
+      ∙ ap (λ (check : Checked State). check >>= kept_by parts_now ranks) is
       ∙ ap (λ bad. once_ranked bad (Ok hypotheses)) proof.lawful
 
-  accepted_with : (steps : List Step) → kept parts goal (log_with steps) ≡ Ok hypotheses
-      → IsAccepted parts goal (log_with steps)
-  accepted_with steps keeps =
-      ap (concluded parts (log_with steps)) keeps ∙ ap of_descent proof.descends
-
-  pub proof_has_log : (log : Log) × (kept parts goal log ≡ Ok hypotheses) × (log.table ≡ ranks) ×
-      IsAccepted parts goal log
+  pub proof_has_log : (log : Log) × (log.domains ≡ domains) × (kept parts goal log ≡ Ok hypotheses)
+      × (log.table ≡ ranks) × IsAccepted parts goal log
   proof_has_log =
-      let (steps, is) = steps_of parts (finished hypotheses) (start goal) 0 proof.run in
-      let keeps = kept_with steps is in
-      (log_with steps, keeps, refl, accepted_with steps keeps)
+      let (steps, is) = steps_of parts_now (finished hypotheses) (start goal) 0 proof.run in
+      let log = log_with steps in
+      let keeps = kept_with steps is in (
+        log,
+        refl,
+        inside_passes parts goal domains (kept_over parts_now goal log) passes ∙ keeps,
+        refl,
+        verdict_inside parts goal log domains refl passes Accepted
+            (ap (concluded parts_now log) keeps ∙ ap of_descent proof.descends),
+      )
+
+-- without domains
+pub plain_proof_has_log : (parts : RuleParts) (goal : Equation) (hypotheses : List Rule)
+    (ranks : RankTable) → IsProof parts goal hypotheses ranks
+    → (log : Log) × (log.domains ≡ None) × (kept parts goal log ≡ Ok hypotheses)
+    × (log.table ≡ ranks) × IsAccepted parts goal log
+plain_proof_has_log parts goal hypotheses ranks proof =
+    proof_has_log parts goal hypotheses ranks None refl proof
+
+-- with a domain for each symbol
+pub inside_proof_has_log : (parts : RuleParts) (lists : List (List Row)) (goal : Equation)
+    (hypotheses : List Rule) (ranks : RankTable) → parts.domains ≡ []
+    → bad_domain parts.symbols lists ≡ None
+    → IsProof (with_domains parts lists) goal hypotheses ranks
+    → (log : Log) × (used parts log.domains ≡ with_domains parts lists)
+    × (kept parts goal log ≡ Ok hypotheses) × (log.table ≡ ranks) × IsAccepted parts goal log
+inside_proof_has_log parts lists goal hypotheses ranks plain good proof = by_kept proof.kept where
+  by_kept : IsKept (with_domains parts lists) goal
+      → (log : Log) × (used parts log.domains ≡ with_domains parts lists)
+      × (kept parts goal log ≡ Ok hypotheses) × (log.table ≡ ranks) × IsAccepted parts goal log
+  by_kept (NoDomains none) =
+      let same : with_domains parts lists ≡ parts =
+      ap (λ (all : List (List Row)). with_domains parts all) (none ∙ sym plain) in
+      let (log, is, keeps, table, accepted) = plain_proof_has_log parts goal hypotheses ranks
+      (subst (λ (p : RuleParts). IsProof p goal hypotheses ranks) same proof) in
+      (log, ap (used parts) is ∙ sym same, keeps, table, accepted)
+  by_kept (Shown certs shows) =
+      let passes =
+      ap (λ (bad : Option ℕ). once_lawful bad (once_kept (keeping (with_domains parts lists) goal
+      certs) passed)) good
+      ∙ ap (λ (found : Keeping). once_kept found passed) shows in
+      let (log, is, keeps, table, accepted) = proof_has_log parts goal hypotheses ranks
+      (Some (record { rows = lists; keeps = certs })) passes proof in
+      (log, ap (used parts) is, keeps, table, accepted)
 
 pub example_has_log : (log : Log) × (kept example alike log ≡ Ok (hypothesis ∷ [])) ×
     IsAccepted example alike log
 example_has_log =
-    let (log, keeps, _, accepted) = proof_has_log example alike (hypothesis ∷ []) table
+    let (log, _, keeps, _, accepted) = plain_proof_has_log example alike (hypothesis ∷ []) table
     example_proof in
     (log, keeps, accepted)

@@ -9,7 +9,7 @@ use Rattle.rx_proofs.specs.Goals.{Fitting, IsFitting}
 use Rattle.rx_log.specs.declared.line.Line.{Line}
 use Rattle.rx_log.specs.declared.log.Log.{Log}
 use Rattle.rx_check.specs.Answers.{Answers}
-use Rattle.rx_check.specs.LineByLine.{StandsFor, log_of}
+use Rattle.rx_check.specs.Replay.{StandsFor, log_of}
 use Rattle.rx_check.specs.Whole.{Replays}
 use Rattle.rx_check.specs.declared.check_end.CheckEnd.{CheckEnd}
 use Rattle.rx_check.specs.declared.replayer.Replayer.{Replayer}

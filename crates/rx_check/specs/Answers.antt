@@ -3,16 +3,18 @@ use Rattle.std.specs.Prelude.{◌≡◌, ℕ, Option, Some, None, Result, Ok, Er
 use Rattle.std.specs.Option.{option_map}
 use Rattle.rx_cover.specs.declared.cover_end.CoverEnd.{CoverEnd}
 use Rattle.rx_cover.specs.declared.cover_end.CoverEnd.TheVariants as cover_end
+use Rattle.rx_domain.specs.declared.domain_end.DomainEnd.{DomainEnd}
+use Rattle.rx_domain.specs.declared.domain_end.DomainEnd.TheVariants as domain_end
 use Rattle.rx_steps.specs.Faults.{fault}
 use Rattle.rx_steps.specs.declared.step_end.StepEnd.{StepEnd}
 use Rattle.rx_steps.specs.declared.step_end.StepEnd.TheVariants as step_end
 use Rattle.rx_term.specs.declared.rule.Equation.{Equation}
 use Rattle.rx_term.specs.declared.rule_set.RuleParts.{RuleParts}
-use Rattle.rx_log.specs.Acceptance.{Accepted, AtCover, AtPair, AtStep, Checked, Fails, HasVerdict, LogFault, Verdict}
+use Rattle.rx_log.specs.Acceptance.{Accepted, AtCover, AtKeep, AtPair, AtStep, Checked, Fails, HasVerdict, LogFault, Verdict}
 use Rattle.rx_log.specs.Acceptance as log_fault
 use Rattle.rx_log.specs.declared.log.Log.{Log}
 use Rattle.rx_check.specs.declared.check_end.CheckEnd.{CheckEnd}
-use Rattle.rx_check.specs.declared.check_end.CheckEnd.TheVariants.{BadRanks, Large, NoMemory, NotCovered, NotLower, Step, Unfinished}
+use Rattle.rx_check.specs.declared.check_end.CheckEnd.TheVariants.{BadDomain, BadRanks, Large, NoMemory, NotCovered, NotKept, NotLower, Step, Unfinished}
 use Rattle.rx_check.specs.declared.check_end.LimitAt.{LimitAt}
 use Rattle.rx_check.specs.declared.check_end.LimitAt.TheVariants as place
 
@@ -21,6 +23,13 @@ abbrev pub of_cover_end : CoverEnd → CheckEnd
 of_cover_end (cover_end.NotCovered f) = NotCovered f
 of_cover_end (cover_end.Large f) = Large (place.Cover f)
 of_cover_end cover_end.NoMemory = NoMemory
+
+-- the end of a check by that of domains
+abbrev pub of_domain_end : DomainEnd → CheckEnd
+of_domain_end (domain_end.BadDomain f) = BadDomain f
+of_domain_end (domain_end.NotKept k) = NotKept k
+of_domain_end (domain_end.Large k) = Large (place.Keep k)
+of_domain_end domain_end.NoMemory = NoMemory
 
 -- the end of a check by that of a step
 abbrev pub of_step_end : ℕ → StepEnd → CheckEnd
@@ -38,6 +47,7 @@ of_step_outcome k (Err end) = Err (of_step_end k end)
 
 -- the place that a place is
 abbrev pub place_of : LimitAt → log_fault.LimitAt
+place_of (place.Keep k) = AtKeep k
 place_of (place.Cover f) = AtCover f
 place_of (place.Step k) = AtStep k
 place_of (place.Pair i) = AtPair i
@@ -45,6 +55,8 @@ place_of (place.Pair i) = AtPair i
 -- the fault that an end names; memory that runs out names none
 abbrev pub named : CheckEnd → Option LogFault
 named (Step k end) = Some (log_fault.Refused k (fault end))
+named (BadDomain f) = Some (log_fault.BadDomain f)
+named (NotKept k) = Some (log_fault.NotKept k)
 named (Unfinished n) = Some (log_fault.Unfinished n)
 named (NotCovered f) = Some (log_fault.NotCovered f)
 named (BadRanks f) = Some (log_fault.BadRanks f)

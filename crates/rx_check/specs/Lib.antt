@@ -2,5 +2,6 @@
 -- log says.
 pub mod Answers
 pub mod LineByLine
+pub mod Replay
 pub mod Results
 pub mod Whole

@@ -1,6 +1,8 @@
--- A log that is replayed line by line: what is kept between two lines, and what that says of it.
+-- The covers, steps, ranks and pairs of a log that is replayed line by line, over rules with their
+-- domains: what is kept between two lines, and what that says of the log. What the log says of
+-- domains isn't looked at here.
 use Rattle.std.specs.Prelude.{◌≡◌, ℕ, Bool, true, false, Option, Some, None, Result, Ok, Err}
-use Rattle.std.specs.Prelude.{All, List, [], ◌∷◌, ◌++◌, drop}
+use Rattle.std.specs.Prelude.{List, [], ◌++◌, drop}
 use Rattle.rx_cover.specs.Covering.{Covers, covering, covering_from}
 use Rattle.rx_cover.specs.declared.cover_tree.CoverTree.{CoverTree}
 use Rattle.rx_inference.specs.declared.step.Step.{Step}
@@ -8,43 +10,30 @@ use Rattle.rx_cert.specs.Findings.{Said, No, Beyond}
 use Rattle.rx_pairs.specs.Inside.{descent_in, listing}
 use Rattle.rx_pairs.specs.Lowering.{Descent, Descends, lower_finding}
 use Rattle.rx_pairs.specs.Lowering as lowering
-use Rattle.rx_pairs.specs.Pairs.{HasRoot}
 use Rattle.rx_pairs.specs.declared.pair.Pair.{Pair}
 use Rattle.rx_pairs.specs.declared.pair_cert.PairCert.{PairCert}
 use Rattle.rx_pairs.specs.declared.table.RankTable.{RankTable}
 use Rattle.rx_term.specs.declared.rule.Equation.{Equation}
 use Rattle.rx_term.specs.declared.rule_set.RuleParts.{RuleParts}
-use Rattle.rx_log.specs.Acceptance.{Checked, HasVerdict, IsAccepted, after_steps, kept, start}
+use Rattle.rx_log.specs.Acceptance.{Accepted, Checked, after_steps, kept_over, start, verdict_over}
 use Rattle.rx_log.specs.Acceptance.{Fails, LogFault, AtPair, NotLower, PassesLimits}
-use Rattle.rx_log.specs.Places.{after, after_all}
-use Rattle.rx_log.specs.Reading.{blank, pushed}
+use Rattle.rx_log.specs.Places.{after}
+use Rattle.rx_log.specs.Reading.{pushed}
 use Rattle.rx_log.specs.declared.line.Line.{Line}
 use Rattle.rx_log.specs.declared.log.Log.{Log}
 use Rattle.rx_log.specs.declared.line_state.LineState.{LineState}
-use Rattle.rx_log.specs.declared.line_state.LineState.TheVariants.{AtHeader, InCovers, InSteps, InRanks, InPairs, Finished}
+use Rattle.rx_log.specs.declared.line_state.LineState.TheVariants.{AtHeader, InDomains, InKeeps, InCovers, InSteps, InRanks, InPairs, Finished}
 use Rattle.rx_check.specs.Answers.{named}
 use Rattle.rx_check.specs.declared.check_end.CheckEnd.{CheckEnd}
 use Rattle.rx_check.specs.declared.progress.Progress.{Progress}
-use Rattle.rx_check.specs.declared.replayer.Replayer.{Replayer}
 
 -- ---- lines
-
--- the log with what lines say, one after the other
-abbrev pub pushed_all : Log → List (Line × ℕ) → Log
-pushed_all log [] = log
-pushed_all log (it ∷ its) = pushed_all (pushed it.0 log) its
-
--- the log as far as these lines have come
-abbrev pub log_of : List (Line × ℕ) → Log
-log_of its = pushed_all blank its
-
--- such a line may come at the first place, and leads to the second
-abbrev pub MayLead : LineState → Line → LineState → Type 0
-MayLead place line behind = (symbol : ℕ) × (after place (line, symbol) ≡ Some behind)
 
 -- at this place steps and the line that begins the ranks may come
 abbrev pub IsOpen : LineState → Type 0
 IsOpen AtHeader = ⊥
+IsOpen (InDomains next) = Unit {0}
+IsOpen InKeeps = Unit {0}
 IsOpen (InCovers next) = Unit {0}
 IsOpen InSteps = Unit {0}
 IsOpen (InRanks columns next) = ⊥
@@ -54,6 +43,8 @@ IsOpen Finished = ⊥
 -- at this place pairs and the end may come
 abbrev pub IsRanked : LineState → Type 0
 IsRanked AtHeader = ⊥
+IsRanked (InDomains next) = ⊥
+IsRanked InKeeps = ⊥
 IsRanked (InCovers next) = ⊥
 IsRanked InSteps = ⊥
 IsRanked (InRanks columns next) = Unit {0}
@@ -64,9 +55,11 @@ IsRanked Finished = ⊥
 abbrev pub Extends : {A : Type 0} → List A → List A → Type 0
 Extends {A} xs ys = (more : List A) × (ys ≡ xs ++ more)
 
--- the log so far, up to the place, is how the whole one begins
+-- the log so far, up to the place, is how the whole one begins, from the covers on
 abbrev pub GoesOn : LineState → Log → Log → Type 0
-GoesOn AtHeader log whole = Extends log.covers whole.covers
+GoesOn AtHeader log whole = Unit {0}
+GoesOn (InDomains next) log whole = Unit {0}
+GoesOn InKeeps log whole = Unit {0}
 GoesOn (InCovers next) log whole = Extends log.covers whole.covers
 GoesOn InSteps log whole = (whole.covers ≡ log.covers) × Extends log.steps whole.steps
 GoesOn (InRanks columns next) log whole =
@@ -83,7 +76,7 @@ GoesOn Finished log whole = whole ≡ log
 -- whichever lines come next, the log has this fault
 abbrev pub HasFailed : RuleParts → Equation → LineState → Log → LogFault → Type 0
 HasFailed parts goal place log fault =
-    (whole : Log) → GoesOn place log whole → HasVerdict parts goal whole (Fails fault)
+    (whole : Log) → GoesOn place log whole → verdict_over parts goal whole ≡ Fails fault
 
 -- the end names a fault that the log has, whichever lines come next
 pub record FailsWith
@@ -122,19 +115,21 @@ pub record IsShown (parts : RuleParts) (log : Log) (progress : Progress) : Type 
   pub goals : progress.state.goals ≡ []
   pub pairs : listing parts (parts.rules ++ progress.state.hypotheses) ≡ progress.listing
 
--- what is known at each place
+-- what is known at each place from the covers on
 abbrev pub IsKnown : RuleParts → Equation → LineState → Log → Progress → Type 0
-IsKnown parts goal AtHeader log progress = CoversSoFar parts log 0 × (log.pairs ≡ [])
+IsKnown parts goal AtHeader log progress = ⊥
+IsKnown parts goal (InDomains next) log progress = ⊥
+IsKnown parts goal InKeeps log progress = ⊥
 IsKnown parts goal (InCovers next) log progress = CoversSoFar parts log next × (log.pairs ≡ [])
 IsKnown parts goal InSteps log progress =
     (covering parts log.covers ≡ Covers) × (log.pairs ≡ [])
 IsKnown parts goal (InRanks columns next) log progress =
     IsShown parts log progress × ((log.pairs ≡ []) × (progress.lower ≡ 0))
 IsKnown parts goal InPairs log progress =
-    (kept parts goal log ≡ Ok progress.state.hypotheses)
+    (kept_over parts goal log ≡ Ok progress.state.hypotheses)
     × ((listing parts (parts.rules ++ progress.state.hypotheses) ≡ progress.listing)
     × PairsSoFar log progress)
-IsKnown parts goal Finished log progress = IsAccepted parts goal log
+IsKnown parts goal Finished log progress = verdict_over parts goal log ≡ Accepted
 
 -- what is kept is what the log so far gives, and nothing of it fails
 pub record Holds
@@ -148,24 +143,6 @@ pub record Holds
 abbrev pub Stands : RuleParts → Equation → LineState → Log → Progress → Option CheckEnd → Type 0
 Stands parts goal place log progress None = Holds parts goal place log progress
 Stands parts goal place log progress (Some end) = FailsWith parts goal place log end
-
--- ---- what is kept
-
--- the place after the lines so far
-abbrev pub place_after : Replayer → LineState
-place_after replayer = replayer.place
-
--- no hypothesis that is kept has a result as its left side
-abbrev pub HasRoots : Replayer → Type 0
-HasRoots replayer = All HasRoot replayer.progress.state.hypotheses
-
--- the lines so far, each with the number of its symbol, are in order, and what is kept is what they
--- give for the rules and the goal: the state so far, or the first failure
-pub record StandsFor
-    (replayer : Replayer) (parts : RuleParts) (goal : Equation) (its : List (Line × ℕ))
-    : Type 0 where
-  pub arrives : after_all (Some AtHeader) its ≡ Some replayer.place
-  pub holds : Stands parts goal replayer.place (log_of its) replayer.progress replayer.failure
 
 -- what follows once all pairs are lower
 abbrev pub once_lower : {A : Type 0} → Descent → Checked A → Checked A

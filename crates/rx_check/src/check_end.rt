@@ -1,6 +1,7 @@
 //! Why a log isn't accepted.
 
 use rx_cover::CoverEnd;
+use rx_domain::DomainEnd;
 use rx_plain::NoMemory;
 use rx_steps::StepEnd;
 use thiserror::Error;
@@ -8,6 +9,8 @@ use thiserror::Error;
 /// A place of a log at which a polynomial passes the limits.
 #[derive(Clone, Copy, Debug, PartialEq, Eq)]
 pub enum LimitAt {
+    /// The inside rows of the part with this number: part 0 is the goal, part k + 1 is rule k.
+    Keep(usize),
     /// The trees of the symbol with this number.
     Cover(usize),
     /// The step with this number, counted from 0.
@@ -33,6 +36,19 @@ pub enum CheckEnd {
     Unfinished {
         /// How many.
         goals: u32,
+    },
+    /// A symbol has no domain over its arguments; at the number of symbols: there are more domains.
+    #[error("symbol {sym} has no domain over its arguments")]
+    BadDomain {
+        /// The symbol's number.
+        sym: usize,
+    },
+    /// A part has no list of certificates or isn't shown to keep the domains; at the number of
+    /// parts: there are more lists.
+    #[error("part {part} does not keep the domains")]
+    NotKept {
+        /// The part's number: part 0 is the goal, part k + 1 is rule k.
+        part: usize,
     },
     /// The trees of a symbol fail or are missing; at the number of symbols: there are more lists of
     /// trees.
@@ -90,6 +106,24 @@ impl From<CoverEnd> for CheckEnd {
                 place: LimitAt::Cover(sym),
             },
             CoverEnd::NoMemory => CheckEnd::NoMemory,
+        }
+    }
+}
+
+impl From<DomainEnd> for CheckEnd {
+    ghost use Rattle.std.specs.Prelude.{◌≡◌};
+    ghost use Rattle.rx_check.specs.Answers.{of_domain_end};
+
+    ghost from_gives = { λ d e. e ≡ of_domain_end d };
+
+    fn from(e: DomainEnd) -> CheckEnd {
+        match e {
+            DomainEnd::BadDomain(sym) => CheckEnd::BadDomain { sym },
+            DomainEnd::NotKept(part) => CheckEnd::NotKept { part },
+            DomainEnd::Large(part) => CheckEnd::Large {
+                place: LimitAt::Keep(part),
+            },
+            DomainEnd::NoMemory => CheckEnd::NoMemory,
         }
     }
 }

@@ -1,13 +1,14 @@
 //! What accepted logs are: laws, each a function with an empty body.
-ghost use Rattle.std.specs.Prelude.{◌≡◌, ◌∷◌, [], ℕ, ℤ, All, List, Ok, Result, Some};
+ghost use Rattle.std.specs.Prelude.{◌≡◌, ◌∷◌, [], ℕ, ℤ, All, List, None, Ok, Result, Some};
 ghost use Rattle.rx_check.specs.Answers.{Answers, verdict_known};
-ghost use Rattle.rx_check.specs.LineByLine.{log_of};
+ghost use Rattle.rx_check.specs.Replay.{log_of};
 ghost use Rattle.rx_check.specs.Results.{EndEqual};
 ghost use Rattle.rx_check.specs.declared.check_end.CheckEnd.{CheckEnd};
+ghost use Rattle.rx_domain.specs.Setting.{bad_domain, with_domains};
 ghost use Rattle.rx_proofs.specs.Example.{alike, example, hypothesis};
 ghost use Rattle.rx_proofs.specs.Goals.{Fitting, IsFitting};
 ghost use Rattle.rx_proofs.specs.Runs.{IsProof};
-ghost use Rattle.rx_log.specs.Acceptance.{HasVerdict, IsAccepted, Verdict, kept};
+ghost use Rattle.rx_log.specs.Acceptance.{HasVerdict, IsAccepted, Verdict, kept, used};
 ghost use Rattle.rx_log.specs.Lines.{log_lines};
 ghost use Rattle.rx_log.specs.declared.log.Log.{Log};
 ghost use Rattle.rx_pairs.specs.Pairs.{HasRoot};
@@ -15,6 +16,7 @@ ghost use Rattle.rx_pairs.specs.declared.table.RankTable.{RankTable};
 ghost use Rattle.rx_rewriting.specs.Premises.{HaveConvertibleNormalForms};
 ghost use Rattle.rx_rewriting.specs.Steps.{IsSingleValued};
 ghost use Rattle.rx_row.specs.Holds.{AllHold};
+ghost use Rattle.rx_row.specs.declared.row.Row.{Row};
 ghost use Rattle.rx_term.specs.Meaning.{Instance, ground_at};
 ghost use Rattle.rx_term.specs.WellMade.{IsWellMade};
 ghost use Rattle.rx_term.specs.declared.rule.Equation.{Equation};
@@ -43,15 +45,15 @@ pub fn lines_give_their_log()
 {}
 
 /// For a well made rule set without domains and a goal whose sides fit it, an accepted log is a
-/// proof, with the hypotheses that its steps keep (`proof`). So at each assignment that meets the
-/// goal's rows both sides reach results, and these are convertible by the rules alone (`alike`);
-/// where the rules are single-valued, as those of a program are, both sides reach the same one
-/// (`equal`).
+/// proof over the rules with its domains, with the hypotheses that its steps keep (`proof`). So at
+/// each assignment that meets the goal's rows both sides reach results, and these are convertible by
+/// the rules alone (`alike`); where the rules are single-valued, as those of a program are, both
+/// sides reach the same one (`equal`).
 pub fn accepted_logs_are_proofs()
     ensures proof { (parts : RuleParts) (goal : Equation) (log : Log) → IsWellMade parts →
         parts.domains ≡ [] → IsFitting parts goal → IsAccepted parts goal log →
         (hypotheses : List Rule) × (kept parts goal log ≡ Ok hypotheses)
-        × IsProof parts goal hypotheses log.table }
+        × IsProof (used parts log.domains) goal hypotheses log.table }
     ensures alike { (parts : RuleParts) (goal : Equation) (log : Log) → IsWellMade parts →
         parts.domains ≡ [] → IsFitting parts goal → IsAccepted parts goal log →
         (a : ℕ → ℤ) → AllHold a goal.rows →
@@ -63,11 +65,20 @@ pub fn accepted_logs_are_proofs()
         EndEqual (Instance parts.rules) (ground_at a goal.left) (ground_at a goal.right) }
 {}
 
-/// Each proof is that of an accepted log, with its table, whose steps keep its hypotheses.
+/// Each proof over the rules as they are is that of an accepted log without domains, with its
+/// table, whose steps keep its hypotheses (`plain`). Over rules without domains, so is each proof
+/// over them with a domain for each symbol, of a log with these or, without symbols, with none (`inside`).
 pub fn proofs_have_logs()
-    ensures { (parts : RuleParts) (goal : Equation) (hypotheses : List Rule) (table : RankTable) →
-        IsProof parts goal hypotheses table →
-        (log : Log) × (kept parts goal log ≡ Ok hypotheses) × (log.table ≡ table)
+    ensures plain { (parts : RuleParts) (goal : Equation) (hypotheses : List Rule)
+        (table : RankTable) → IsProof parts goal hypotheses table →
+        (log : Log) × (log.domains ≡ None) × (kept parts goal log ≡ Ok hypotheses)
+        × (log.table ≡ table) × IsAccepted parts goal log }
+    ensures inside { (parts : RuleParts) (lists : List (List Row)) (goal : Equation)
+        (hypotheses : List Rule) (table : RankTable) → parts.domains ≡ [] →
+        bad_domain parts.symbols lists ≡ None →
+        IsProof (with_domains parts lists) goal hypotheses table →
+        (log : Log) × (used parts log.domains ≡ with_domains parts lists)
+        × (kept parts goal log ≡ Ok hypotheses) × (log.table ≡ table)
         × IsAccepted parts goal log }
 {}
 

@@ -2,6 +2,7 @@
 #![tactic(auto)]
 
 mod check_end;
+mod inside;
 mod laws;
 mod lines;
 mod outcomes;

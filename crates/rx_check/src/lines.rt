@@ -1,14 +1,29 @@
 //! Lines of a whole log: copies of its parts.
 ghost use Rattle.std.specs.Prelude.{◌≡◌, IfOk};
 
-use rx_cert::copied_certs;
+use rx_cert::{Cert, copied_certs};
 use rx_cover::CoverTree;
 use rx_log::Line;
 use rx_pairs::PairCert;
 use rx_plain::{Items, NoMemory};
 use rx_poly::{Poly, copied_polys};
+use rx_row::Constraint;
 use rx_steps::Step;
 use std::alloc::Global;
+
+/// The line that gives a symbol this domain.
+pub(crate) fn domain_line(alloc: Global, rows: &Constraint) -> Result<Line, NoMemory>
+    ensures { IfOk result (λ line. line ≡ Line.Domain rows.now) }
+{
+    Ok(Line::Domain(rows.try_clone(alloc)?))
+}
+
+/// The line that says why a part keeps the domains.
+pub(crate) fn keep_line(alloc: Global, certs: &[Cert]) -> Result<Line, NoMemory>
+    ensures { IfOk result (λ line. line ≡ Line.Keep certs.now) }
+{
+    Ok(Line::Keep(copied_certs(alloc, certs)?))
+}
 
 /// The line that gives a symbol these trees.
 pub(crate) fn cover_line(alloc: Global, trees: &[CoverTree]) -> Result<Line, NoMemory>

@@ -180,7 +180,7 @@ impl Progress {
         ensures roots { All HasRoot self.new.state.hypotheses }
     {
         match line {
-            Line::Header => Ok(None),
+            Line::Header | Line::Header2 | Line::Domain(_) | Line::Keep(_) => Ok(None),
             Line::Cover(trees) => judge_cover(alloc, rules, place, trees.as_slice()),
             Line::Step(step) => self.take(alloc, rules, place, step),
             Line::Ranks(columns) => self.begin_ranks(alloc, rules, place, columns),

@@ -1,9 +1,9 @@
 //! The replay of a log line by line, as it is read: the lines aren't kept.
-ghost use Rattle.std.specs.Prelude.{◌≡◌, ◌≢◌, [], ◌∷◌, ◌++◌, ℕ, ℤ, Some, Err, All, List};
+ghost use Rattle.std.specs.Prelude.{◌≡◌, ◌≢◌, [], ◌∷◌, ◌++◌, ℕ, ℤ, None, Some, Err, All, List};
 ghost use Rattle.std.specs.Prelude.{OnOk, OnErr, IfErr, IfOk};
 ghost use Rattle.rx_check.specs.Answers.{Answers};
-ghost use Rattle.rx_check.specs.LineByLine.{HasRoots, MayLead, Stands, StandsFor, log_of};
-ghost use Rattle.rx_check.specs.LineByLine.{place_after};
+ghost use Rattle.rx_check.specs.Replay.{HasRoots, IsNoDomain, JudgesLine, MayLead, StandsFor};
+ghost use Rattle.rx_check.specs.Replay.{log_of, place_after};
 ghost use Rattle.rx_check.specs.Whole.{HasWidths, Replays, front_of};
 ghost use Rattle.rx_proofs.specs.Goals.{Fitting, IsFitting};
 ghost use Rattle.rx_log.specs.Places.{after};
@@ -16,20 +16,26 @@ ghost use Rattle.rx_term.specs.declared.rule.Equation.{Equation};
 ghost use Rattle.rx_term.specs.declared.rule_set.RuleParts.{RuleParts};
 
 use crate::check_end::CheckEnd;
+use crate::inside::{DomainProgress, Held, judge_inside, let_go};
+use crate::outcomes::failure_of;
 use crate::progress::Progress;
+use rx_domain::set_domains;
 use rx_log::{Line, LineState, Log};
 use rx_pairs::{Listing, RankTable, bad_ranks};
 use rx_plain::{Items, NoMemory};
+use rx_row::Constraint;
 use rx_steps::State;
 use rx_term::{Equation, RuleSet};
 use std::alloc::Global;
 
-/// What is kept of a log that is replayed line by line: the place in the order of lines, the proof
-/// state, the ranks, the pairs, and the first failure.
+/// What is kept of a log that is replayed line by line: the place in the order of lines, the rules
+/// with its domains, the proof state, the ranks, the pairs, and the first failure.
 #[derive(Drop)]
 pub struct Replayer {
     // Which lines may come next.
     place: LineState,
+    // What is kept of domains; of no use after a failure.
+    domains: DomainProgress,
     // What is kept of the checks; of no use after a failure.
     progress: Progress,
     // The first failure.
@@ -59,30 +65,115 @@ impl Replayer {
             },
             lower: 0,
         };
+        let domains = DomainProgress {
+            rows: Items::new(alloc),
+            held: Held { set: None },
+            kept: 0,
+        };
         Ok(Replayer {
             place: LineState::AtHeader,
+            domains,
             progress,
             failure: None,
         })
     }
 
+    /// Keeps the domain of the next symbol.
+    fn push_domain(&mut self, alloc: Global, rows: &Constraint) -> Result<(), NoMemory>
+        ensures ok { OnOk result (self.new ≡ record self.old {
+          domains =
+              record self.old.domains { rows = self.old.domains.rows ++ rows.now ∷ [] };
+        }) }
+        ensures err { OnErr result (self.new ≡ self.old) }
+    {
+        self.domains.rows.push(rows.try_clone(alloc)?)?;
+        Ok(())
+    }
+
+    /// Judges the first line after the domains: makes the rules with them before.
+    fn judge_first(&mut self, alloc: Global, rules: &RuleSet, line: Line) -> Result<(), NoMemory>
+        requires roots { HasRoots self.old }
+        requires open { self.old.failure ≡ None }
+        requires domains { (next : ℕ) × (place_after self.old ≡ LineState.InDomains next) }
+        requires line { IsNoDomain line }
+        ensures judges { OnOk result (JudgesLine rules.now line self.old self.new) }
+        ensures place { self.new.place ≡ self.old.place }
+        ensures kept { OnErr result (self.new ≡ self.old) }
+        ensures roots { HasRoots self.new }
+    {
+        match set_domains(alloc, rules, self.domains.rows.as_slice()) {
+            Ok(set) => {
+                let kept = &mut self.domains.kept;
+                self.failure = judge_inside(alloc, &set, kept, &mut self.progress, line)?;
+                self.domains.held.put(set);
+            }
+            Err(end) => {
+                let_go(line);
+                self.failure = failure_of(Err(CheckEnd::from(end)))?;
+            }
+        }
+        Ok(())
+    }
+
+    /// Judges a line that comes among the domains.
+    fn judge_domain(&mut self, alloc: Global, rules: &RuleSet, line: Line) -> Result<(), NoMemory>
+        requires roots { HasRoots self.old }
+        requires open { self.old.failure ≡ None }
+        requires domains { (next : ℕ) × (place_after self.old ≡ LineState.InDomains next) }
+        ensures judges { OnOk result (JudgesLine rules.now line self.old self.new) }
+        ensures place { self.new.place ≡ self.old.place }
+        ensures kept { OnErr result (self.new ≡ self.old) }
+        ensures roots { HasRoots self.new }
+    {
+        if let Line::Domain(rows) = &line {
+            self.push_domain(alloc, rows)?;
+            let_go(line);
+            return Ok(());
+        }
+        self.judge_first(alloc, rules, line)
+    }
+
+    /// Judges a line that comes after the domains.
+    fn judge_behind(&mut self, alloc: Global, rules: &RuleSet, line: Line) -> Result<(), NoMemory>
+        requires roots { HasRoots self.old }
+        requires open { self.old.failure ≡ None }
+        requires keeps { place_after self.old ≡ LineState.InKeeps }
+        ensures judges { OnOk result (JudgesLine rules.now line self.old self.new) }
+        ensures place { self.new.place ≡ self.old.place }
+        ensures kept { OnErr result (self.new ≡ self.old) }
+        ensures roots { HasRoots self.new }
+    {
+        let used = self.domains.held.rules(rules);
+        let kept = &mut self.domains.kept;
+        self.failure = judge_inside(alloc, used, kept, &mut self.progress, line)?;
+        Ok(())
+    }
+
     /// Judges the next line, unless one before it failed.
     fn judge(&mut self, alloc: Global, rules: &RuleSet, line: Line) -> Result<(), NoMemory>
         requires roots { HasRoots self.old }
-        ensures stands { OnOk result ((goal : Equation) (log : Log) (symbol : ℕ)
-            (behind : LineState) →
-            Stands rules.now goal self.old.place log self.old.progress self.old.failure →
-            after self.old.place (line, symbol) ≡ Some behind →
-            Stands rules.now goal behind (pushed line log) self.new.progress self.new.failure) }
+        ensures judges { OnOk result (JudgesLine rules.now line self.old self.new) }
         ensures place { self.new.place ≡ self.old.place }
         ensures kept { OnErr result (self.new ≡ self.old) }
         ensures roots { HasRoots self.new }
     {
         if self.failure.is_some() {
+            let_go(line);
             return Ok(());
         }
-        self.failure = self.progress.judge(alloc, rules, self.place, line)?;
-        Ok(())
+        match self.place {
+            LineState::AtHeader => {
+                let_go(line);
+                Ok(())
+            }
+            LineState::InDomains(_) => self.judge_domain(alloc, rules, line),
+            LineState::InKeeps => self.judge_behind(alloc, rules, line),
+            place => {
+                let used = self.domains.held.rules(rules);
+                self.failure = self.progress.judge(alloc, used, place, line)?;
+                Ok(())
+            }
+        }
     }
 
     /// Takes the next line, which leads to the place `behind`. Once a line has failed, the failure

@@ -1,8 +1,11 @@
 //! Whether a whole log is accepted: its lines are replayed one after the other.
 ghost use Rattle.std.specs.Prelude.{◌≡◌, [], ℕ, ℤ, true, length, OnOk};
 ghost use Rattle.rx_check.specs.Answers.{Answers};
-ghost use Rattle.rx_check.specs.LineByLine.{HasRoots, IsOpen, IsRanked, place_after};
-ghost use Rattle.rx_check.specs.Whole.{HasWidths, Replays, front_of, with_covers, with_pairs, with_ranks, with_steps};
+ghost use Rattle.rx_check.specs.LineByLine.{IsOpen, IsRanked};
+ghost use Rattle.rx_check.specs.Replay.{HasRoots, place_after};
+ghost use Rattle.rx_check.specs.Whole.{AwaitsCover, HasWidths, IsInside, Replays, domains_alone};
+ghost use Rattle.rx_check.specs.Whole.{front_of, with_covers, with_keeps, with_lists, with_pairs};
+ghost use Rattle.rx_check.specs.Whole.{with_ranks, with_steps};
 ghost use Rattle.rx_proofs.specs.Goals.{Fitting};
 ghost use Rattle.rx_log.specs.Reading.{blank};
 ghost use Rattle.rx_log.specs.declared.log.Log.{Log};
@@ -13,18 +16,89 @@ ghost use Rattle.rx_term.specs.Meaning.{Instance, ground_at};
 ghost use Rattle.rx_term.specs.declared.rule.Equation.{Equation};
 
 use crate::check_end::CheckEnd;
-use crate::lines::{cover_line, pair_line, rank_line, step_line};
+use crate::lines::{cover_line, domain_line, keep_line, pair_line, rank_line, step_line};
 use crate::replayer::Replayer;
+use rx_cert::Cert;
 use rx_cover::CoverTree;
+use rx_domain::Domains;
 use rx_log::{Line, LineState, Log};
 use rx_pairs::PairCert;
 use rx_plain::{Items, NoMemory};
 use rx_poly::Poly;
+use rx_row::Constraint;
 use rx_steps::Step;
 use rx_term::{Equation, RuleSet};
 use std::alloc::Global;
 
 impl Replayer {
+    /// Takes the lines of the domains.
+    fn take_domains(
+        &mut self,
+        alloc: Global,
+        rules: &RuleSet,
+        lists: &[Constraint],
+    ) -> Result<(), NoMemory>
+        requires place { place_after self.old ≡ LineState.InDomains 0 }
+        requires roots { HasRoots self.old }
+        ensures takes { OnOk result ((goal : Equation) (log : Log) →
+            Replays self.old rules.now goal log →
+            Replays self.new rules.now goal (with_lists log lists.now)) }
+        ensures at { OnOk result (IsInside (place_after self.new)) }
+        ensures roots { OnOk result (HasRoots self.new) }
+    {
+        for (symbol, rows) in lists.iter().enumerate() {
+            let next = domain_line(alloc, rows)?;
+            self.line(alloc, rules, next, LineState::InDomains(symbol as u64 + 1))?;
+        }
+        Ok(())
+    }
+
+    /// Takes the lines of the certificates that the domains are kept.
+    fn take_keeps(
+        &mut self,
+        alloc: Global,
+        rules: &RuleSet,
+        keeps: &[Items<Cert>],
+    ) -> Result<(), NoMemory>
+        requires at { IsInside (place_after self.old) }
+        requires roots { HasRoots self.old }
+        ensures takes { OnOk result ((goal : Equation) (log : Log) →
+            Replays self.old rules.now goal log →
+            Replays self.new rules.now goal (with_keeps log keeps.now)) }
+        ensures at { OnOk result (IsInside (place_after self.new)) }
+        ensures roots { OnOk result (HasRoots self.new) }
+    {
+        for certs in keeps {
+            let next = keep_line(alloc, certs.as_slice())?;
+            self.line(alloc, rules, next, LineState::InKeeps)?;
+        }
+        Ok(())
+    }
+
+    /// Takes the first line, and those of domains if there are any.
+    fn take_begin(
+        &mut self,
+        alloc: Global,
+        rules: &RuleSet,
+        domains: &Option<Domains>,
+    ) -> Result<(), NoMemory>
+        requires place { place_after self.old ≡ LineState.AtHeader }
+        requires roots { HasRoots self.old }
+        ensures takes { OnOk result ((goal : Equation) → Replays self.old rules.now goal blank →
+            Replays self.new rules.now goal (domains_alone domains.now)) }
+        ensures at { OnOk result (AwaitsCover 0 (place_after self.new)) }
+        ensures roots { OnOk result (HasRoots self.new) }
+    {
+        let Some(all) = domains else {
+            self.line(alloc, rules, Line::Header, LineState::InCovers(0))?;
+            return Ok(());
+        };
+        self.line(alloc, rules, Line::Header2, LineState::InDomains(0))?;
+        self.take_domains(alloc, rules, all.rows.as_slice())?;
+        self.take_keeps(alloc, rules, all.keeps.as_slice())?;
+        Ok(())
+    }
+
     /// Takes the lines of the covers.
     fn take_covers(
         &mut self,
@@ -32,7 +106,7 @@ impl Replayer {
         rules: &RuleSet,
         covers: &[Items<CoverTree>],
     ) -> Result<(), NoMemory>
-        requires place { place_after self.old ≡ LineState.InCovers 0 }
+        requires at { AwaitsCover 0 (place_after self.old) }
         requires roots { HasRoots self.old }
         ensures takes { OnOk result ((goal : Equation) (log : Log) →
             Replays self.old rules.now goal log →
@@ -124,7 +198,7 @@ impl Replayer {
             LineState.InRanks log.now.table.columns 0) }
         ensures roots { OnOk result (HasRoots self.new) }
     {
-        self.line(alloc, rules, Line::Header, LineState::InCovers(0))?;
+        self.take_begin(alloc, rules, &log.domains)?;
         self.take_covers(alloc, rules, log.covers.as_slice())?;
         self.take_steps(alloc, rules, log.steps.as_slice())?;
         let columns = log.table.columns;
@@ -153,10 +227,11 @@ impl Replayer {
 
 /// Whether the log is accepted for the rules and the goal: its lines are replayed by a `Replayer`,
 /// each copied before. Its checks come in this order, and the first that fails is the answer: the
-/// covers, the steps one after the other, whether goals are left, the ranks, the pairs. A place at
-/// which a polynomial passes the limits before anything fails there is reported as such, and is no
-/// refusal. Where the log is accepted, on all integers that meet the goal's rows both sides reach
-/// results, and these are convertible by the rules alone.
+/// domains and whether they are kept, if it has any, the covers, the steps one after the other,
+/// whether goals are left, the ranks, the pairs. All after the domains is examined over the rules
+/// with these domains. A place at which a polynomial passes the limits before anything fails there
+/// is reported as such, and is no refusal. Where the log is accepted, on all integers that meet the
+/// goal's rows both sides reach results, and these are convertible by the rules alone.
 ///
 /// Both sides of the goal must fit the symbols, and the rules must have no domains. Trees and
 /// certificates are examined by recursion, as deep as they are.

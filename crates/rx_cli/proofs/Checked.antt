@@ -34,6 +34,8 @@ status_refused (Why.PreName token) = refl
 
 -- an end of a replay isn't a says
 no_yes : (end : CheckEnd) → check_status end ≡ Ends.Equivalent → ⊥
+no_yes (End.BadDomain symbol) e = cc
+no_yes (End.NotKept part) e = cc
 no_yes (End.Step step end) e = cc
 no_yes (End.Unfinished goals) e = cc
 no_yes (End.NotCovered symbol) e = cc

@@ -64,6 +64,8 @@ if_never_differs true e = cc
 if_never_differs false e = cc
 
 check_never_differs : (end : CheckEnd) → check_status end ≡ Ends.Different → ⊥
+check_never_differs (check_end.BadDomain sym) e = cc
+check_never_differs (check_end.NotKept part) e = cc
 check_never_differs (check_end.Step step end) e = cc
 check_never_differs (check_end.Unfinished goals) e = cc
 check_never_differs (check_end.NotCovered sym) e = cc

@@ -8,12 +8,16 @@ use Rattle.rx_check.specs.declared.check_end.CheckEnd.TheVariants as End
 use Rattle.rx_check.specs.declared.check_end.LimitAt.TheVariants as At
 use Rattle.rx_cover.specs.Covering as cover
 use Rattle.rx_cover.specs.Covering.{Covering, Covers, covering}
+use Rattle.rx_domain.specs.Keeping as keep
+use Rattle.rx_domain.specs.Keeping.{Keeping, Keeps, keeping}
+use Rattle.rx_domain.specs.Setting.{bad_domain, with_domains}
+use Rattle.rx_domain.specs.declared.domains.Domains.{Domains}
 use Rattle.rx_inference.specs.Judging as judging
 use Rattle.rx_inference.specs.Judging.{StepFault}
 use Rattle.rx_inference.specs.States.{State, applied}
 use Rattle.rx_inference.specs.declared.step.Step.{Step}
 use Rattle.rx_log.specs.Acceptance as acceptance
-use Rattle.rx_log.specs.Acceptance.{Checked, HasVerdict, LogFault, after_step, after_steps, concluded, kept, kept_by, of_descent, once_covered, once_finished, once_ranked, start, ◌>>=◌}
+use Rattle.rx_log.specs.Acceptance.{Checked, HasVerdict, LogFault, after_step, after_steps, concluded, kept, kept_by, kept_over, of_descent, once_covered, once_finished, once_inside, once_kept, once_lawful, once_ranked, start, used, ◌>>=◌}
 use Rattle.rx_log.specs.declared.log.Log.{Log}
 use Rattle.rx_pairs.specs.Lowering as lowering
 use Rattle.rx_pairs.specs.Inside.{descends_in}
@@ -74,14 +78,38 @@ covered_none Covers next none k is = none k is
 covered_none (cover.Fails f) next none k is = cc
 covered_none (cover.PassesLimits f) next none k is = cc
 
-kept_none : (parts : RuleParts) (goal : Equation) (log : Log) → HasNone (kept parts goal log)
-kept_none parts goal log k is =
+over_none : (parts : RuleParts) (goal : Equation) (log : Log) → HasNone (kept_over parts goal log)
+over_none parts goal log k is =
     covered_none (covering parts log.covers) (after_steps parts 0 (start goal) log.steps >>= kept_by
     parts log.table)
     (then_none (after_steps parts 0 (start goal) log.steps) (kept_by parts log.table)
     (steps_none parts 0 (start goal) log.steps)
     (λ end. finished_none end.goals (once_ranked (bad_rank parts log.table) (Ok end.hypotheses))
     (ranked_none (bad_rank parts log.table) end.hypotheses))) k is
+
+lawful_none : (bad : Option ℕ) (next : Checked (List Rule)) → HasNone next →
+    HasNone (once_lawful bad next)
+lawful_none None next none k is = none k is
+lawful_none (Some f) next none k is = cc
+
+keeps_none : (found : Keeping) (next : Checked (List Rule)) → HasNone next →
+    HasNone (once_kept found next)
+keeps_none Keeps next none k is = none k is
+keeps_none (keep.Fails i) next none k is = cc
+keeps_none (keep.PassesLimits i) next none k is = cc
+
+inside_none : (parts : RuleParts) (goal : Equation) (o : Option Domains)
+    (next : Checked (List Rule)) → HasNone next → HasNone (once_inside parts goal o next)
+inside_none parts goal None next none k is = none k is
+inside_none parts goal (Some domains) next none k is =
+    let found = keeping (with_domains parts domains.rows) goal domains.keeps in
+    lawful_none (bad_domain parts.symbols domains.rows) (once_kept found next)
+    (keeps_none found next none) k is
+
+kept_none : (parts : RuleParts) (goal : Equation) (log : Log) → HasNone (kept parts goal log)
+kept_none parts goal log =
+    inside_none parts goal log.domains (kept_over (used parts log.domains) goal log)
+    (over_none (used parts log.domains) goal log)
 
 descent_none : (descent : Descent) (k : ℕ) → of_descent descent ≡ acceptance.Fails (large k) → ⊥
 descent_none Descends k is = cc
@@ -98,7 +126,8 @@ concluded_none parts log (Ok hypotheses) none k is =
 never_large : (parts : RuleParts) (goal : Equation) (log : Log) (k : ℕ) →
     HasVerdict parts goal log (acceptance.Fails (large k)) → ⊥
 never_large parts goal log k has =
-    concluded_none parts log (kept parts goal log) (kept_none parts goal log) k has
+    concluded_none (used parts log.domains) log (kept parts goal log) (kept_none parts goal log) k
+    has
 
 -- what an end of a replay says
 pub end_said : (problem : Problem) (log : Log) (end : CheckEnd) → end ≢ End.NoMemory →
@@ -118,12 +147,18 @@ end_said problem log (End.Step k Unmet.NoMemory) other told =
     absurd (never_large problem.rules problem.goal log k told)
 end_said problem log (End.Unfinished n) other told =
     ((acceptance.Fails (acceptance.Unfinished n), told, refl), tt)
+end_said problem log (End.BadDomain f) other told =
+    ((acceptance.Fails (acceptance.BadDomain f), told, refl), tt)
+end_said problem log (End.NotKept i) other told =
+    ((acceptance.Fails (acceptance.NotKept i), told, refl), tt)
 end_said problem log (End.NotCovered f) other told =
     ((acceptance.Fails (acceptance.NotCovered f), told, refl), tt)
 end_said problem log (End.BadRanks f) other told =
     ((acceptance.Fails (acceptance.BadRanks f), told, refl), tt)
 end_said problem log (End.NotLower i) other told =
     ((acceptance.Fails (acceptance.NotLower i), told, refl), tt)
+end_said problem log (End.Large (At.Keep i)) other told =
+    ((acceptance.Fails (acceptance.PassesLimits (acceptance.AtKeep i)), told, refl), tt)
 end_said problem log (End.Large (At.Cover f)) other told =
     ((acceptance.Fails (acceptance.PassesLimits (acceptance.AtCover f)), told, refl), tt)
 end_said problem log (End.Large (At.Step k)) other told =

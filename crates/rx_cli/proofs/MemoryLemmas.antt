@@ -17,6 +17,8 @@ use Rattle.rx_cli.specs.Run.{Reports, RunEnds}
 
 -- no end of a replay has the status of a write fault
 never_cut_check : (end : CheckEnd) → check_status end ≡ Ends.WriteFault → ⊥
+never_cut_check (End.BadDomain symbol) e = cc
+never_cut_check (End.NotKept part) e = cc
 never_cut_check (End.Step step end) e = cc
 never_cut_check (End.Unfinished goals) e = cc
 never_cut_check (End.NotCovered symbol) e = cc

@@ -19,7 +19,9 @@ fn verdict_on(end: CheckEnd) -> Option<Verdict>
 {
     match end {
         CheckEnd::NoMemory => None,
-        CheckEnd::Step { step: _, end: _ }
+        CheckEnd::BadDomain { sym: _ }
+        | CheckEnd::NotKept { part: _ }
+        | CheckEnd::Step { step: _, end: _ }
         | CheckEnd::Unfinished { goals: _ }
         | CheckEnd::NotCovered { sym: _ }
         | CheckEnd::BadRanks { sym: _ }

@@ -1,5 +1,6 @@
--- Whether a log is accepted for rules and a goal. Covers, steps, goals left, ranks and pairs are
--- checked in this order, and the first fault decides.
+-- Whether a log is accepted for rules and a goal. Domains and what keeps them, if the log has any,
+-- then covers, steps, goals left, ranks and pairs are checked in this order, and the first fault
+-- decides.
 use Rattle.std.specs.Prelude.{◌≡◌, ◌+◌, ◌++◌, [], ◌∷◌, ℕ, List, length, Option, Some, None, Result, Ok, Err}
 use Rattle.rx_term.specs.declared.rule.Equation.{Equation}
 use Rattle.rx_term.specs.declared.rule.Rule.{Rule}
@@ -9,6 +10,10 @@ use Rattle.rx_inference.specs.States.{State, applied}
 use Rattle.rx_inference.specs.declared.step.Step.{Step}
 use Rattle.rx_cover.specs.Covering.{Covering, Covers, covering}
 use Rattle.rx_cover.specs.Covering as cover
+use Rattle.rx_domain.specs.Keeping.{Keeping, Keeps, keeping}
+use Rattle.rx_domain.specs.Keeping as keep
+use Rattle.rx_domain.specs.Setting.{bad_domain, with_domains}
+use Rattle.rx_domain.specs.declared.domains.Domains.{Domains}
 use Rattle.rx_pairs.specs.Inside.{descends_in}
 use Rattle.rx_pairs.specs.Lowering.{Descent, Descends}
 use Rattle.rx_pairs.specs.Lowering as lowering
@@ -18,16 +23,20 @@ use Rattle.rx_log.specs.declared.log.Log.{Log}
 
 -- ---- faults
 
--- a place at which the limits can be passed, by its number: the trees of a symbol, a step, a pair
+-- a place at which the limits can be passed, by its number: a part that is to keep the domains, the
+-- trees of a symbol, a step, a pair
 pub data LimitAt : Type 0 where
+  AtKeep : ℕ → LimitAt
   AtCover : ℕ → LimitAt
   AtStep : ℕ → LimitAt
   AtPair : ℕ → LimitAt
 
--- the first thing that is wrong: a symbol that isn't covered, a step and why it doesn't apply, how
--- many goals are left, a symbol without a lawful rank, a pair that isn't lower, or a place that
--- passes the limits
+-- the first thing that is wrong: a symbol without a lawful domain, a part that isn't shown to keep
+-- the domains, a symbol that isn't covered, a step and why it doesn't apply, how many goals are
+-- left, a symbol without a lawful rank, a pair that isn't lower, or a place that passes the limits
 pub data LogFault : Type 0 where
+  BadDomain : ℕ → LogFault
+  NotKept : ℕ → LogFault
   NotCovered : ℕ → LogFault
   Refused : ℕ → StepFault → LogFault
   Unfinished : ℕ → LogFault
@@ -45,7 +54,31 @@ abbrev pub ◌>>=◌ : {A B : Type 0} → Checked A → (A → Checked B) → Ch
 Ok x >>= next = next x
 Err fault >>= next = Err fault
 
--- ---- all checks but that of pairs
+-- ---- domains
+
+-- the rules with the domains of a log, and as they are where it has none
+abbrev pub used : RuleParts → Option Domains → RuleParts
+used parts None = parts
+used parts (Some domains) = with_domains parts domains.rows
+
+-- what follows once no symbol has a bad domain
+abbrev pub once_lawful : {A : Type 0} → Option ℕ → Checked A → Checked A
+once_lawful None next = next
+once_lawful (Some f) next = Err (BadDomain f)
+
+-- what follows once the goal and the rules keep the domains
+abbrev pub once_kept : {A : Type 0} → Keeping → Checked A → Checked A
+once_kept Keeps next = next
+once_kept (keep.Fails k) next = Err (NotKept k)
+once_kept (keep.PassesLimits k) next = Err (PassesLimits (AtKeep k))
+
+-- what follows once the domains of the log, if it has any, are lawful and kept
+abbrev pub once_inside : {A : Type 0} → RuleParts → Equation → Option Domains → Checked A → Checked A
+once_inside parts goal None next = next
+once_inside parts goal (Some domains) next = once_lawful (bad_domain parts.symbols domains.rows)
+    (once_kept (keeping (with_domains parts domains.rows) goal domains.keeps) next)
+
+-- ---- all other checks but that of pairs
 
 -- what follows once the rule set is covered
 abbrev pub once_covered : {A : Type 0} → Covering → Checked A → Checked A
@@ -92,11 +125,17 @@ abbrev pub kept_by : RuleParts → RankTable → State → Checked (List Rule)
 kept_by parts table end =
     once_finished end.goals (once_ranked (bad_rank parts table) (Ok end.hypotheses))
 
--- the hypotheses that the steps keep, where all checks before that of pairs find no fault
-abbrev pub kept : RuleParts → Equation → Log → Checked (List Rule)
-kept parts goal log = once_covered (covering parts log.covers) do
+-- the hypotheses that the steps keep, where all these checks over rules with their domains find no
+-- fault
+abbrev pub kept_over : RuleParts → Equation → Log → Checked (List Rule)
+kept_over parts goal log = once_covered (covering parts log.covers) do
   end ← after_steps parts 0 (start goal) log.steps
   kept_by parts log.table end
+
+-- the same with the domains of the log, where these are lawful and kept
+abbrev pub kept : RuleParts → Equation → Log → Checked (List Rule)
+kept parts goal log =
+    once_inside parts goal log.domains (kept_over (used parts log.domains) goal log)
 
 -- ---- the verdict
 
@@ -117,9 +156,13 @@ concluded parts log (Err fault) = Fails fault
 concluded parts log (Ok hypotheses) =
     of_descent (descends_in parts (parts.rules ++ hypotheses) log.table log.pairs)
 
--- the verdict on a log, for rules and a goal
+-- the verdict over rules with their domains, whatever the log says of domains
+abbrev pub verdict_over : RuleParts → Equation → Log → Verdict
+verdict_over parts goal log = concluded parts log (kept_over parts goal log)
+
+-- the verdict on a log, for rules without domains and a goal
 abbrev pub verdict_on : RuleParts → Equation → Log → Verdict
-verdict_on parts goal log = concluded parts log (kept parts goal log)
+verdict_on parts goal log = concluded (used parts log.domains) log (kept parts goal log)
 
 abbrev pub HasVerdict : RuleParts → Equation → Log → Verdict → Type 0
 HasVerdict parts goal log verdict = verdict_on parts goal log ≡ verdict

@@ -3,7 +3,7 @@ use Rattle.std.specs.Prelude.{ℕ, ◌+◌, ◌==◌, if◌then◌else◌, Optio
 use Rattle.rx_log.specs.declared.line.Line.{Line}
 use Rattle.rx_log.specs.declared.line.Line.TheVariants as line
 use Rattle.rx_log.specs.declared.line_state.LineState.{LineState}
-use Rattle.rx_log.specs.declared.line_state.LineState.TheVariants.{AtHeader, InCovers, InSteps, InRanks, InPairs, Finished}
+use Rattle.rx_log.specs.declared.line_state.LineState.TheVariants.{AtHeader, InDomains, InKeeps, InCovers, InSteps, InRanks, InPairs, Finished}
 
 -- the place after a line, where such a line may come; the cover of the symbol with this number is
 -- next
@@ -32,13 +32,27 @@ after_ranks columns next (line.Rank rank) symbol =
     else None
 after_ranks columns next other symbol = after_pairs other
 
+-- the certificates that the domains are kept, as long as they last
+abbrev pub after_keeps : Line → ℕ → Option LineState
+after_keeps (line.Keep certs) symbol = Some InKeeps
+after_keeps other symbol = after_covers 0 other symbol
+
+-- the domain of the symbol with this number is next
+abbrev pub after_domains : ℕ → Line → ℕ → Option LineState
+after_domains next (line.Domain rows) symbol =
+    if symbol == next then Some (InDomains (next + 1)) else None
+after_domains next other symbol = after_keeps other symbol
+
 abbrev pub after_header : Line → Option LineState
 after_header line.Header = Some (InCovers 0)
+after_header line.Header2 = Some (InDomains 0)
 after_header other = None
 
 -- the place after a line with its symbol; None where no such line may come
 abbrev pub after : LineState → Line × ℕ → Option LineState
 after AtHeader it = after_header it.0
+after (InDomains next) it = after_domains next it.0 it.1
+after InKeeps it = after_keeps it.0 it.1
 after (InCovers next) it = after_covers next it.0 it.1
 after InSteps it = after_steps it.0
 after (InRanks columns next) it = after_ranks columns next it.0 it.1

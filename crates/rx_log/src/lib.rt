@@ -4,7 +4,9 @@
 mod line;
 mod line_state;
 mod log;
+mod version;
 
 pub use line::Line;
 pub use line_state::LineState;
 pub use log::Log;
+pub use version::Version;

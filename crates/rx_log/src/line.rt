@@ -1,16 +1,24 @@
 //! The lines of a log.
 
+use rx_cert::Cert;
 use rx_cover::CoverTree;
 use rx_inference::Step;
 use rx_pairs::PairCert;
 use rx_plain::Items;
 use rx_poly::Poly;
+use rx_row::Constraint;
 
 /// A line of a log, without the symbols whose numbers are in it.
 #[derive(Drop)]
 pub enum Line {
-    /// The first line, which names the format.
+    /// The first line of version 1, which names the format.
     Header,
+    /// The first line of version 2.
+    Header2,
+    /// The domain of a symbol: rows over its arguments.
+    Domain(Constraint),
+    /// Why the goal is inside the domains, or why a rule keeps them.
+    Keep(Items<Cert>),
     /// The trees that are to cover a symbol.
     Cover(Items<CoverTree>),
     /// A step.

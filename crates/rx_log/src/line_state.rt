@@ -9,6 +9,10 @@ use crate::line::Line;
 pub enum LineState {
     /// Before the first line.
     AtHeader,
+    /// Among the domains; that of the symbol with this number is next, if any.
+    InDomains(u64),
+    /// After the certificates that the goal is inside, or that a rule keeps the domains.
+    InKeeps,
     /// Among the covers; that of the symbol with this number is next, if any.
     InCovers(u64),
     /// After a step.
@@ -32,6 +36,7 @@ fn after_header(line: &Line) -> Option<LineState>
 {
     match line {
         Line::Header => Some(LineState::InCovers(0)),
+        Line::Header2 => Some(LineState::InDomains(0)),
         _ => None,
     }
 }
@@ -54,6 +59,33 @@ fn after_covers(next: u64, line: &Line, symbol: u32) -> Option<LineState>
             next: 0,
         }),
         _ => None,
+    }
+}
+
+/// The place after a line that comes after the certificates that the domains are kept.
+fn after_keeps(line: &Line, symbol: u32) -> Option<LineState>
+    ensures { result ≡ spec.after_keeps line.now symbol }
+{
+    match line {
+        Line::Keep(_) => Some(LineState::InKeeps),
+        _ => after_covers(0, line, symbol),
+    }
+}
+
+/// The place after a line that comes where the domain of the symbol with the number `wanted`
+/// may come.
+fn after_domains(wanted: u64, line: &Line, symbol: u32) -> Option<LineState>
+    ensures { result ≡ spec.after_domains wanted line.now symbol }
+{
+    match line {
+        Line::Domain(_) => {
+            if symbol as u64 == wanted {
+                Some(LineState::InDomains(symbol as u64 + 1))
+            } else {
+                None
+            }
+        }
+        _ => after_keeps(line, symbol),
     }
 }
 
@@ -110,6 +142,8 @@ impl LineState {
     {
         match self {
             LineState::AtHeader => after_header(line),
+            LineState::InDomains(next) => after_domains(next, line, symbol),
+            LineState::InKeeps => after_keeps(line, symbol),
             LineState::InCovers(next) => after_covers(next, line, symbol),
             LineState::InSteps => after_steps(line),
             LineState::InRanks { columns, next } => after_ranks(columns, next, line, symbol),

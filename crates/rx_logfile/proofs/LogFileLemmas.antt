@@ -5,17 +5,20 @@ use Rattle.std.proofs.lemmas.List.{append-nil, length-drop}
 use Rattle.std.specs.Io.KnownBytes.{Consumes, IsAtEnd}
 use Rattle.std.specs.Prelude.{◌^◌}
 use Rattle.rx_check.specs.Answers.{Answers}
-use Rattle.rx_check.specs.LineByLine as lines
+use Rattle.rx_check.specs.Replay as lines
 use Rattle.rx_check.specs.declared.check_end.CheckEnd.{CheckEnd}
-use Rattle.rx_check.specs.LineByLine.{log_of, place_after}
+use Rattle.rx_check.specs.Replay.{log_of, place_after}
 use Rattle.rx_check.proofs.LineOrder.{pushed_all-append}
 use Rattle.rx_io.specs.Outside.{HoldsBytes, IsOpenedAt, Names}
+use Rattle.rx_domain.specs.declared.domains.Domains.{Domains}
+use Rattle.rx_log.specs.Lines.{before_covers, before_end, before_ranks, behind_steps, log_lines, version_of}
 use Rattle.rx_log.specs.Places.{after}
 use Rattle.rx_log.specs.Reading.{blank, lines_to, pushed}
 use Rattle.rx_log.specs.declared.line.Line.{Line}
 use Rattle.rx_log.specs.declared.log.Log.{Log}
+use Rattle.rx_log.specs.declared.version.Version.{Version}
 use Rattle.rx_log.specs.declared.line_state.LineState.{LineState}
-use Rattle.rx_log.specs.declared.line_state.LineState.TheVariants.{AtHeader, InCovers, InSteps, InRanks, InPairs, Finished}
+use Rattle.rx_log.specs.declared.line_state.LineState.TheVariants.{AtHeader, InDomains, InKeeps, InCovers, InSteps, InRanks, InPairs, Finished}
 use Rattle.rx_logtext.specs.Logs.{IsFirstBad, IsLog, ended, line_texts, up_to_feed}
 use Rattle.rx_logtext.specs.Readers as text
 use Rattle.rx_logtext.specs.Readers.{MayLead, Takes, has_bad, place_of, taken_of}
@@ -39,14 +42,41 @@ no_lines [] left e = refl
 no_lines ([] ∷ texts) left e = absurd (cc)
 no_lines ((byte ∷ bytes) ∷ texts) left e = absurd (cc)
 
-at_header : (place : LineState) (log : Log) → line_texts (lines_to place log) ≡ [] → place ≡
-    AtHeader
-at_header AtHeader log e = refl
-at_header (InCovers next) log e = absurd (cc)
-at_header InSteps log e = absurd (cc)
-at_header (InRanks columns next) log e = absurd (cc)
-at_header InPairs log e = absurd (cc)
-at_header Finished log e = absurd (cc)
+no_its : (version : Version) (its : List (Line × ℕ)) → line_texts version its ≡ [] → its ≡ []
+no_its version [] e = refl
+no_its version (it ∷ its) e = absurd (cc)
+
+first_empty : {A : Type 0} (xs ys : List A) → xs ++ ys ≡ [] → xs ≡ []
+first_empty [] ys e = refl
+first_empty (x ∷ xs) ys e = absurd (cc)
+
+-- each log has a first line
+never_empty : (domains : Option Domains) → before_covers domains ≡ [] → ⊥
+never_empty None e = cc
+never_empty (Some domains) e = cc
+
+never_covers : (log : Log) → before_ranks log ≡ [] → ⊥
+never_covers log e = never_empty log.domains (first_empty (before_covers log.domains) _ e)
+
+never_ranks : (log : Log) → before_end log ≡ [] → ⊥
+never_ranks log e = never_covers log (first_empty (before_ranks log) (behind_steps log) e)
+
+at_header : (version : Version) (place : LineState) (log : Log) →
+    line_texts version (lines_to place log) ≡ [] → place ≡ AtHeader
+at_header version AtHeader log e = refl
+at_header version (InDomains next) log e =
+    absurd (never_empty log.domains (no_its version (before_covers log.domains) e))
+at_header version InKeeps log e =
+    absurd (never_empty log.domains (no_its version (before_covers log.domains) e))
+at_header version (InCovers next) log e =
+    absurd (never_covers log (no_its version (before_ranks log) e))
+at_header version InSteps log e =
+    absurd (never_covers log (no_its version (before_ranks log) e))
+at_header version (InRanks columns next) log e =
+    absurd (never_ranks log (no_its version (before_end log) e))
+at_header version InPairs log e = absurd (never_ranks log (no_its version (before_end log) e))
+at_header version Finished log e =
+    absurd (never_ranks log (first_empty (before_end log) _ (no_its version (log_lines log) e)))
 
 same_place : {x y : LineState} → Some x ≡ Some y → x ≡ y
 same_place e = cc
@@ -55,7 +85,7 @@ pub starts : {check : LogCheck} {log : Log} (parts : RuleParts) (goal : Equation
     text.StandsFor check.reader log [] → lines.StandsFor check.replayer parts goal [] →
     place_after check.replayer ≡ place_of check.reader
 starts {check} {log} parts goal reader replayer =
-    same_place (sym replayer.arrives) ∙ sym (at_header check.reader.place log
+    same_place (sym replayer.arrives) ∙ sym (at_header (version_of log) check.reader.place log
     (reader.taken.are ∙ no_lines reader.texts reader.left reader.joined))
 
 unless : (bad : Bool) (replayed : Type 0) → replayed → UnlessBad bad replayed

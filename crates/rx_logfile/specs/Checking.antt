@@ -1,7 +1,7 @@
 -- What is kept of a log that is replayed while it is read.
 use Rattle.std.specs.Prelude.{◌≡◌, ◌≤◌, ⊤, ℕ, Bool, true, false, Option, Some, None, List, [], ◌++◌, length}
-use Rattle.rx_check.specs.LineByLine as lines
-use Rattle.rx_check.specs.LineByLine.{HasRoots, log_of, place_after}
+use Rattle.rx_check.specs.Replay as lines
+use Rattle.rx_check.specs.Replay.{HasRoots, log_of, place_after}
 use Rattle.rx_log.specs.declared.line.Line.{Line}
 use Rattle.rx_log.specs.declared.log.Log.{Log}
 use Rattle.rx_logtext.specs.Logs.{up_to_feed}

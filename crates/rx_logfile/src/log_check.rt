@@ -96,7 +96,7 @@ impl LogCheck {
     }
 
     /// Whether the log is accepted, of which the whole text was taken, or why not. The rules must
-    /// have no domains.
+    /// have no domains: those of the log are used.
     pub fn finish(self, rules: &RuleSet) -> Result<(), FileEnd>
         requires no_domains { rules.now.domains ≡ [] }
         requires room { lines_in self + 1 < 2 ^ 64 }

@@ -20,7 +20,7 @@ const PIECE: usize = 65_536;
 /// The file is read to its end, whatever the first lines have come to, since a call that fails, too
 /// many bytes and a bad line count before the replay. Kept are a piece of the file, the next line,
 /// and what the replay keeps; never the text or the log. Where memory runs out the answer is
-/// NoMemory, and never that of a check. The rules must have no domains.
+/// NoMemory, and never that of a check. The rules must have no domains: those of the log are used.
 pub fn replay_file<F: Files>(
     alloc: Global,
     rules: &RuleSet,

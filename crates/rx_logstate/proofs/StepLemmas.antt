@@ -1,12 +1,15 @@
 -- Steps of a log that come one by one.
-use Rattle.std.proofs.Common.{◌≡◌, ◌∙◌, ap, sym, refl, subst, ℕ, zero, suc, ◌+◌, ◌<◌, ◌≤◌, Bool, true, false, Some, None, Result, Ok, Err, List, [], ◌∷◌, ◌++◌, length, drop, min, take, append_assoc, length-append, arith}
+use Rattle.std.proofs.Common.{◌≡◌, ◌∙◌, ap, sym, refl, subst, ℕ, zero, suc, ◌+◌, ◌<◌, ◌≤◌, Bool, true, false, Option, Some, None, option_map, unwrap_or, Result, Ok, Err, List, [], ◌∷◌, ◌++◌, length, drop, min, take, append_assoc, length-append, arith}
 use Rattle.std.proofs.lemmas.List.{append-nil, drop_all, length-take, take-append-le, take_all}
 use Rattle.rx_inference.specs.Judging.{StepFault}
 use Rattle.rx_inference.specs.Judging as judging
 use Rattle.rx_inference.specs.States.{State, applied}
 use Rattle.rx_inference.specs.declared.step.Step.{Step}
 use Rattle.rx_log.specs.Acceptance.{◌>>=◌, after_step, after_steps, start, step_fault}
-use Rattle.rx_log.specs.Reading.{pushed}
+use Rattle.rx_cert.specs.declared.cert.Cert.{Cert}
+use Rattle.rx_row.specs.declared.row.Row.{Row}
+use Rattle.rx_domain.specs.declared.domains.Domains.{Domains}
+use Rattle.rx_log.specs.Reading.{pushed, with_domain, with_keep}
 use Rattle.rx_log.specs.declared.line.Line.TheVariants as line
 use Rattle.rx_log.specs.declared.log.Log.{Log}
 use Rattle.rx_steps.specs.Faults.{Applies}
@@ -16,8 +19,10 @@ use Rattle.rx_term.specs.declared.rule.Equation.{Equation}
 use Rattle.rx_term.specs.declared.rule_set.RuleParts.{RuleParts}
 use Rattle.rx_logstate.specs.AtSteps.{IsRefusedBefore, steps_before}
 use Rattle.rx_logstate.specs.Following.{Arrives, Concludes, Decides, Follows, FollowsNext, SaysFault}
+use Rattle.rx_logstate.specs.Fronts.{after_domain, after_domains, after_header, after_keep, fronts_of}
 use Rattle.rx_logstate.specs.declared.following.Follower.{Follower}
 use Rattle.rx_logstate.specs.declared.following.Reached.{Reached}
+use Rattle.rx_logstate.specs.declared.front_lines.Fronts.{Fronts}
 
 -- ---- the state
 
@@ -134,6 +139,7 @@ module _ (parts : RuleParts) (goal : Equation) (number : ℕ) (log : Log) (old :
         omega (arith, short, length-append log.steps (step ∷ [])) in
         record {
           numbered = h.numbered;
+          fronts = h.fronts;
           covers = h.covers;
           steps = all_steps;
           arrives =
@@ -152,6 +158,7 @@ module _ (parts : RuleParts) (goal : Equation) (number : ℕ) (log : Log) (old :
         let same : number ≡ length log.steps = omega (arith, here, h.steps, h.numbered) in
         record {
           numbered = h.numbered;
+          fronts = h.fronts;
           covers = h.covers;
           steps = all_steps;
           arrives =
@@ -171,6 +178,7 @@ module _ (parts : RuleParts) (goal : Equation) (number : ℕ) (log : Log) (old :
         let within : number < length log.steps = omega (arith, late, h.steps, h.numbered) in
         record {
           numbered = h.numbered;
+          fronts = h.fronts;
           covers = h.covers;
           steps = all_steps;
           arrives =
@@ -179,6 +187,67 @@ module _ (parts : RuleParts) (goal : Equation) (number : ℕ) (log : Log) (old :
           step = h.step ∙ sym (first_earlier log.steps step number within);
           table = h.table;
         }
+
+-- ---- lines about domains
+
+abbrev fronts_at : ℕ → ℕ → Fronts
+fronts_at keeps covers = record { keeps = keeps; covers = covers }
+
+two : (first second keeps covers : ℕ) → first ≡ keeps → second ≡ covers →
+    fronts_at first second ≡ fronts_at keeps covers
+two first second keeps covers e f =
+    ap (λ (n : ℕ). fronts_at n second) e ∙ ap (λ (n : ℕ). fronts_at keeps n) f
+
+rows_more : (d : Option Domains) (rows : List Row) →
+    option_map after_domain (option_map after_domains d)
+    ≡ option_map after_domains (option_map (with_domain rows) d)
+rows_more None rows = refl
+rows_more (Some d) rows =
+    let l : length (d.rows ++ rows ∷ []) ≡ length d.rows + 1 = length-append d.rows (rows ∷ []) in
+    let e : fronts_at (2 + length d.rows + 1) (2 + length d.rows + length d.keeps + 1)
+    ≡ fronts_at (2 + length (d.rows ++ rows ∷ [])) (2 + length (d.rows ++ rows ∷ []) + length d.keeps) =
+    two _ _ _ _ (omega (arith, l)) (omega (arith, l)) in
+    ap (λ (fronts : Fronts). Some fronts) e
+
+keeps_more : (d : Option Domains) (certs : List Cert) →
+    option_map after_keep (option_map after_domains d)
+    ≡ option_map after_domains (option_map (with_keep certs) d)
+keeps_more None certs = refl
+keeps_more (Some d) certs =
+    let l : length (d.keeps ++ certs ∷ []) ≡ length d.keeps + 1 = length-append d.keeps (certs ∷ []) in
+    let e : fronts_at (2 + length d.rows) (2 + length d.rows + length d.keeps + 1)
+    ≡ fronts_at (2 + length d.rows) (2 + length d.rows + length (d.keeps ++ certs ∷ [])) =
+    two _ _ _ _ refl (omega (arith, l)) in
+    ap (λ (fronts : Fronts). Some fronts) e
+
+module _ (parts : RuleParts) (goal : Equation) (number : ℕ) (log : Log) (old : Follower)
+    (h : Follows old parts goal number log)
+  where
+    pub domain_follows : (rows : List Row) →
+        Follows (record old { fronts = option_map after_domain old.fronts }) parts goal number
+        (pushed (line.Domain rows) log)
+    domain_follows rows = record {
+      numbered = h.numbered;
+      fronts = ap (option_map after_domain) h.fronts ∙ rows_more log.domains rows;
+      covers = h.covers;
+      steps = h.steps;
+      arrives = h.arrives;
+      step = h.step;
+      table = h.table;
+    }
+
+    pub keep_follows : (certs : List Cert) →
+        Follows (record old { fronts = option_map after_keep old.fronts }) parts goal number
+        (pushed (line.Keep certs) log)
+    keep_follows certs = record {
+      numbered = h.numbered;
+      fronts = ap (option_map after_keep) h.fronts ∙ keeps_more log.domains certs;
+      covers = h.covers;
+      steps = h.steps;
+      arrives = h.arrives;
+      step = h.step;
+      table = h.table;
+    }
 
 -- ---- the end
 
@@ -194,16 +263,29 @@ module _ (parts : RuleParts) (goal : Equation) (number : ℕ) (log : Log) (old :
     pub ends_refused : old.reached.is_refused ≡ true → Concludes parts goal log number None
     ends_refused is = refused_before parts goal number log old.reached.state (arrived true is)
 
-    pub ends_at : (line : ℕ) → line ≡ old.covers + 2 + min old.number old.steps →
+    pub ends_at : (fronts : Fronts) (line : ℕ) → fronts ≡ unwrap_or old.fronts after_header →
+        line ≡ fronts.covers + old.covers + min old.number old.steps →
         old.reached.is_refused ≡ false → Concludes parts goal log number
-        (Some (record { line = line; state = old.reached.state; step = old.step; table = old.table }))
-    ends_at line is good = record {
-      line =
-          let e : length (steps_before number log) ≡ min number (length log.steps) =
-          length-take number log.steps in
-          omega (arith, is, e, h.covers, h.steps, h.numbered);
-      state =
-          reached parts goal (steps_before number log) old.reached.state (arrived false good);
-      step = h.step;
-      table = h.table;
-    }
+        (Some (record {
+          fronts = fronts;
+          line = line;
+          state = old.reached.state;
+          step = old.step;
+          table = old.table;
+        }))
+    ends_at fronts line begins is good =
+        let f : fronts ≡ fronts_of log =
+        begins ∙ ap (λ (some : Option Fronts). unwrap_or some after_header) h.fronts in
+        record {
+          fronts = f;
+          line =
+              let e : length (steps_before number log) ≡ min number (length log.steps) =
+              length-take number log.steps in
+              let g : fronts.covers ≡ (fronts_of log).covers =
+              ap (λ (at : Fronts). at.covers) f in
+              omega (arith, is, g, e, h.covers, h.steps, h.numbered);
+          state =
+              reached parts goal (steps_before number log) old.reached.state (arrived false good);
+          step = h.step;
+          table = h.table;
+        }

@@ -7,7 +7,9 @@ use Rattle.rx_log.specs.declared.log.Log.{Log}
 use Rattle.rx_logtext.specs.Logs.{IsFirstBad, IsLog}
 use Rattle.rx_term.specs.declared.rule.Equation.{Equation}
 use Rattle.rx_term.specs.declared.rule_set.RuleParts.{RuleParts}
+use Rattle.rx_logstate.specs.Fronts.{fronts_of}
 use Rattle.rx_logstate.specs.declared.at_step.AtStep.{AtStep}
+use Rattle.rx_logstate.specs.declared.front_lines.Fronts.{Fronts}
 use Rattle.rx_logstate.specs.declared.look_end.LookEnd.{LookEnd}
 use Rattle.rx_logstate.specs.declared.look_end.LookEnd.TheVariants as look_end
 
@@ -19,14 +21,16 @@ steps_before number log = take number log.steps
 abbrev pub step_at : ℕ → Log → List Step
 step_at number log = take 1 (drop number log.steps)
 
--- the number of the line of that step, or of the one after the last: the header comes first, then
--- the covers, then the steps
+-- the number of the line of that step, or of the one after the last: the covers come before
+-- the steps
 abbrev pub line_of_step : ℕ → Log → ℕ
-line_of_step number log = 2 + length log.covers + length (steps_before number log)
+line_of_step number log =
+    (fronts_of log).covers + length log.covers + length (steps_before number log)
 
 -- at the step with this number of a log, for rules and a goal: the state after the steps before it
 pub record IsAtStep (parts : RuleParts) (goal : Equation) (log : Log) (number : ℕ) (found : AtStep)
     : Type 0 where
+  pub fronts : found.fronts ≡ fronts_of log
   pub line : found.line ≡ line_of_step number log
   pub state : after_steps parts 0 (start goal) (steps_before number log) ≡ Ok found.state
   pub step : found.step ≡ step_at number log
@@ -48,11 +52,14 @@ pub record Stand (held : Option Names) (name : List ℕ) (Said : List ℕ → Ty
 abbrev pub OnLog : List ℕ → (Log → Type 0) → Type 0
 OnLog bytes Said = (log : Log) × (IsLog bytes log × Said log)
 
+-- the bytes are no log
+abbrev pub IsNoLog : List ℕ → Type 0
+IsNoLog bytes = (line : ℕ) × IsFirstBad bytes line
+
 -- the bytes are no log, or that of one in which a step before isn't accepted
 abbrev pub HasNoPlace : RuleParts → Equation → ℕ → List ℕ → Type 0
 HasNoPlace parts goal number bytes =
-    ((line : ℕ) × IsFirstBad bytes line)
-    ⊎ OnLog bytes (λ log. IsRefusedBefore parts goal log number)
+    IsNoLog bytes ⊎ OnLog bytes (λ log. IsRefusedBefore parts goal log number)
 
 -- what is found at the step with this number of the log that is under a name, or why nothing is
 abbrev pub FindsStep : Option Names → Type 0 → List ℕ → ℕ → RuleParts → Equation → ℕ →
@@ -64,3 +71,12 @@ FindsStep held fault name limit parts goal number (Err look_end.Unread) =
 FindsStep held fault name limit parts goal number (Err look_end.NoPlace) =
     Stand held name (HasNoPlace parts goal number)
 FindsStep held fault name limit parts goal number (Err look_end.NoMemory) = Unit {0}
+
+-- where the lines before the steps begin in the log that is under a name, or why that isn't known
+abbrev pub FindsFronts : Option Names → Type 0 → List ℕ → ℕ → Result Fronts LookEnd → Type 0
+FindsFronts held fault name limit (Ok fronts) =
+    Stand held name (λ bytes. OnLog bytes (λ log. fronts ≡ fronts_of log))
+FindsFronts held fault name limit (Err look_end.Unread) =
+    fault ⊎ (IsMissing held name ⊎ HoldsMore held name limit)
+FindsFronts held fault name limit (Err look_end.NoPlace) = Stand held name IsNoLog
+FindsFronts held fault name limit (Err look_end.NoMemory) = Unit {0}

@@ -1,5 +1,5 @@
 -- What is kept of a log while it is read up to a step. Nothing that a caller reads depends on this.
-use Rattle.std.specs.Prelude.{◌≡◌, ◌≤◌, ℕ, Bool, true, false, List, Option, Some, None, Result, Ok, Err, ◌+◌, ◌++◌, length}
+use Rattle.std.specs.Prelude.{◌≡◌, ◌≤◌, ℕ, Bool, true, false, List, Option, Some, None, Result, Ok, Err, ◌+◌, ◌++◌, length, option_map}
 use Rattle.rx_inference.specs.declared.step.Step.{Step}
 use Rattle.rx_inference.specs.States.{State}
 use Rattle.rx_log.specs.Acceptance.{LogFault, after_steps, start}
@@ -12,6 +12,7 @@ use Rattle.rx_steps.specs.declared.step_end.StepEnd.TheVariants as step_end
 use Rattle.rx_term.specs.declared.rule.Equation.{Equation}
 use Rattle.rx_term.specs.declared.rule_set.RuleParts.{RuleParts}
 use Rattle.rx_logstate.specs.AtSteps.{IsAtStep, IsRefusedBefore, step_at, steps_before, HasNoPlace, OnLog}
+use Rattle.rx_logstate.specs.Fronts.{after_domains}
 use Rattle.rx_logstate.specs.declared.at_step.AtStep.{AtStep}
 use Rattle.rx_logstate.specs.declared.following.Follower.{Follower}
 use Rattle.rx_logstate.specs.declared.following.Reached.{Reached}
@@ -46,6 +47,7 @@ pub record Follows (follower : Follower) (parts : RuleParts) (goal : Equation) (
     (log : Log)
     : Type 0 where
   pub numbered : follower.number ≡ number
+  pub fronts : follower.fronts ≡ option_map after_domains log.domains
   pub covers : follower.covers ≡ length log.covers
   pub steps : follower.steps ≡ length log.steps
   pub arrives : Arrives follower.reached parts goal (steps_before number log)

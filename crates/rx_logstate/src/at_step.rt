@@ -1,5 +1,6 @@
 //! What is known at a step of a log.
 
+use crate::front_lines::Fronts;
 use rx_inference::Step;
 use rx_pairs::RankTable;
 use rx_plain::Items;
@@ -8,6 +9,8 @@ use rx_steps::State;
 /// What is known at the step with a number, or after the last one where there are no more.
 #[derive(Drop)]
 pub struct AtStep {
+    /// Where the lines before the steps begin.
+    pub fronts: Fronts,
     /// The number of the line of that step, or of the line after the last one, counted from 1.
     pub line: usize,
     /// The state after the steps before it.

@@ -1,13 +1,15 @@
 //! The state of a proof while the lines of its log come.
-ghost use Rattle.std.specs.Prelude.{◌≡◌, ◌+◌, ◌∷◌, ◌++◌, [], ℕ, List, false, min, IfOk, OnOk};
+ghost use Rattle.std.specs.Prelude.{◌≡◌, ◌+◌, ◌∷◌, ◌++◌, [], ℕ, List, false, min, option_map, unwrap_or, IfOk, OnOk};
 ghost use Rattle.rx_inference.specs.declared.step.Step.{Step};
 ghost use Rattle.rx_log.specs.Reading.{blank, pushed};
 ghost use Rattle.rx_log.specs.declared.log.Log.{Log};
 ghost use Rattle.rx_term.specs.declared.rule.Equation.{Equation};
 ghost use Rattle.rx_term.specs.declared.rule_set.RuleParts.{RuleParts};
 ghost use Rattle.rx_logstate.specs.Following.{Arrives, Concludes, Follows, FollowsNext, SaysFault};
+ghost use Rattle.rx_logstate.specs.Fronts.{after_domain, after_header, after_keep};
 
 use crate::at_step::AtStep;
+use crate::front_lines::{Fronts, count_after};
 use rx_inference::Step;
 use rx_log::Line;
 use rx_pairs::RankTable;
@@ -16,6 +18,12 @@ use rx_poly::Poly;
 use rx_steps::{State, StepEnd, apply_owned};
 use rx_term::{Equation, RuleSet};
 use std::alloc::Global;
+
+// Where they begin behind a header with nothing else before them.
+const AFTER_HEADER: Fronts = Fronts {
+    keeps: 2,
+    covers: 2,
+};
 
 /// Whether a step wasn't accepted, by how its application ended; NoMemory where that isn't known.
 fn is_fault(end: Result<(), StepEnd>) -> Result<bool, NoMemory>
@@ -75,6 +83,8 @@ impl Reached {
 pub(crate) struct Follower {
     // The number of the step that is looked for.
     number: usize,
+    // Where the lines behind those about domains begin, where the log has any.
+    fronts: Option<Fronts>,
     // How many covers came.
     covers: usize,
     // How many steps came.
@@ -87,12 +97,12 @@ pub(crate) struct Follower {
     table: RankTable,
 }
 
-/// The number after this one; NoMemory where there is none.
-fn count_after(count: usize) -> Result<usize, NoMemory>
-    ensures { IfOk result (λ next. next ≡ count + 1) }
+/// The sum; NoMemory where there is none.
+fn sum(first: usize, second: usize) -> Result<usize, NoMemory>
+    ensures { IfOk result (λ sum. sum ≡ first + second) }
 {
-    match count.checked_add(1) {
-        Some(next) => Ok(next),
+    match first.checked_add(second) {
+        Some(sum) => Ok(sum),
         None => Err(NoMemory),
     }
 }
@@ -114,6 +124,7 @@ impl Follower {
         };
         Ok(Follower {
             number,
+            fronts: None,
             covers: 0,
             steps: 0,
             reached,
@@ -153,6 +164,36 @@ impl Follower {
         Ok(())
     }
 
+    /// Counts a domain, where the log has any.
+    fn take_domain(&mut self) -> Result<(), NoMemory>
+        ensures { OnOk result (self.new ≡ record self.old {
+          fronts = option_map after_domain self.old.fronts;
+        }) }
+    {
+        match self.fronts {
+            Some(fronts) => {
+                self.fronts = Some(fronts.after_domain()?);
+                Ok(())
+            }
+            None => Ok(()),
+        }
+    }
+
+    /// Counts a list of certificates that a part keeps the domains, where the log has any.
+    fn take_keep(&mut self) -> Result<(), NoMemory>
+        ensures { OnOk result (self.new ≡ record self.old {
+          fronts = option_map after_keep self.old.fronts;
+        }) }
+    {
+        match self.fronts {
+            Some(fronts) => {
+                self.fronts = Some(fronts.after_keep()?);
+                Ok(())
+            }
+            None => Ok(()),
+        }
+    }
+
     /// Counts a cover.
     fn take_cover(&mut self) -> Result<(), NoMemory>
         ensures { OnOk result (self.new ≡ record self.old { covers = self.old.covers + 1 }) }
@@ -184,6 +225,12 @@ impl Follower {
     {
         match line {
             Line::Header => Ok(()),
+            Line::Header2 => {
+                self.fronts = Some(AFTER_HEADER);
+                Ok(())
+            }
+            Line::Domain(_rows) => self.take_domain(),
+            Line::Keep(_certs) => self.take_keep(),
             Line::Cover(_trees) => self.take_cover(),
             Line::Step(step) => self.take_step(alloc, rules, step),
             Line::Ranks(columns) => {
@@ -196,16 +243,20 @@ impl Follower {
         }
     }
 
-    /// The number of the line of the step that is looked for, or of the one after the last.
-    fn line_number(&self) -> Result<usize, NoMemory>
-        ensures { IfOk result (λ line. line ≡ self.now.covers + 2 + min self.now.number self.now.steps) }
+    /// Where the lines before the steps begin.
+    fn known_fronts(&self) -> Fronts
+        ensures { result ≡ unwrap_or self.now.fronts after_header }
     {
-        let steps = self.number.min(self.steps);
-        let before = count_after(count_after(self.covers)?)?;
-        match before.checked_add(steps) {
-            Some(line) => Ok(line),
-            None => Err(NoMemory),
-        }
+        self.fronts.unwrap_or(AFTER_HEADER)
+    }
+
+    /// The number of the line of the step that is looked for, or of the one after the last.
+    fn line_number(&self, fronts: Fronts) -> Result<usize, NoMemory>
+        ensures { IfOk result (λ line. line ≡ fronts.covers + self.now.covers
+            + min self.now.number self.now.steps) }
+    {
+        let before = sum(fronts.covers, self.covers)?;
+        sum(before, self.number.min(self.steps))
     }
 
     /// What is known where the whole log has come; none where a step before isn't accepted.
@@ -213,11 +264,13 @@ impl Follower {
         ensures { IfOk result (λ found. (parts : RuleParts) (goal : Equation) (number : ℕ) (log : Log) →
             Follows self parts goal number log → Concludes parts goal log number found) }
     {
-        let line = self.line_number()?;
+        let fronts = self.known_fronts();
+        let line = self.line_number(fronts)?;
         if self.reached.is_refused {
             return Ok(None);
         }
         Ok(Some(AtStep {
+            fronts,
             line,
             state: self.reached.state,
             step: self.step,

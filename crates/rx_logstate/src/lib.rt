@@ -4,11 +4,13 @@
 
 mod at_step;
 mod following;
+mod front_lines;
 mod look_end;
 mod looking;
 mod reading;
 
 pub use at_step::AtStep;
+pub use front_lines::Fronts;
 pub use look_end::LookEnd;
-pub use reading::step_in_file;
+pub use reading::{fronts_in_file, step_in_file};
 pub use rx_plain::NoMemory;

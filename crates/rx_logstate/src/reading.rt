@@ -1,13 +1,16 @@
 //! The state of a proof at a step of the log in a file.
 ghost use Rattle.std.specs.Prelude.{◌≡◌, ◌≤◌};
 ghost use Rattle.rx_io.specs.Outside.{Rose};
-ghost use Rattle.rx_logstate.specs.AtSteps.{FindsStep};
+ghost use Rattle.rx_logstate.specs.AtSteps.{FindsFronts, FindsStep};
 
 use crate::at_step::AtStep;
+use crate::front_lines::Fronts;
 use crate::look_end::LookEnd;
 use crate::looking::Look;
 use rx_io::Files;
-use rx_term::{Equation, RuleSet};
+use rx_plain::Items;
+use rx_row::Constraint;
+use rx_term::{Equation, RuleParts, RuleSet, Term};
 use std::alloc::Global;
 
 // The most bytes that one call takes.
@@ -53,5 +56,60 @@ pub fn step_in_file<F: Files>(
         }
         read += count;
         look.take(alloc, rules, &piece[..count])?;
+    }
+}
+
+/// A rule set without symbols.
+fn no_rules(alloc: Global) -> RuleSet {
+    let parts = RuleParts {
+        symbols: Items::new(alloc),
+        domains: Items::new(alloc),
+        rules: Items::new(alloc),
+        fails: 0,
+    };
+    match RuleSet::from_parts(parts) {
+        Some(rules) => rules,
+        None => unreachable!(),
+    }
+}
+
+/// That a failure is itself, under no rows.
+fn plain_goal(alloc: Global) -> Equation {
+    Equation {
+        left: Term::Fail(0),
+        right: Term::Fail(0),
+        rows: Constraint::from_rows(Vec::new(alloc)),
+    }
+}
+
+/// Keeps where the lines before the steps begin, and nothing else.
+fn fronts_at(found: AtStep) -> Fronts
+    ensures { result ≡ found.fronts }
+{
+    found.fronts
+}
+
+/// Where the lines before the steps begin in the log in the named file, of at most `limit` bytes.
+///
+/// The file is read once, in pieces, up to its end, since only then it is known to hold a log.
+/// Nothing in it is judged, so it is no matter what the log is about.
+pub fn fronts_in_file<F: Files>(
+    alloc: Global,
+    files: &mut F,
+    name: &str,
+    limit: u32,
+) -> Result<Fronts, LookEnd>
+    ensures reach { F.reaches files.old files.new }
+    ensures held { F.held files.new ≡ F.held files.old }
+    ensures later { F.faults files.old ≤ F.faults files.new }
+    ensures finds { FindsFronts (F.held files.old) (Rose (F.faults files.old) (F.faults files.new))
+        name.now limit result }
+{
+    // Before the first step no rule is used.
+    let rules = no_rules(alloc);
+    let goal = plain_goal(alloc);
+    match step_in_file(alloc, &rules, goal, files, name, limit, 0) {
+        Ok(found) => Ok(fronts_at(found)),
+        Err(end) => Err(end),
     }
 }

@@ -1,17 +1,23 @@
 -- A log is given by its lines.
-use Rattle.std.proofs.Common.{◌≡◌, ◌∙◌, refl, sym, ap, ℕ, ◌+◌, List, [], ◌∷◌, ◌++◌, append_assoc}
+use Rattle.std.proofs.Common.{◌≡◌, ◌∙◌, refl, sym, ap, subst, ℕ, ◌+◌, true, Option, Some, None, List, [], ◌∷◌, ◌++◌, append_assoc}
 use Rattle.std.proofs.lemmas.List.{append-nil}
 use Rattle.rx_poly.specs.declared.body.Body.{Body}
+use Rattle.std.specs.List.{list_all}
+use Rattle.rx_cert.specs.declared.cert.Cert.{Cert}
+use Rattle.rx_row.specs.declared.row.Row.{Row}
+use Rattle.rx_domain.specs.declared.domains.Domains.{Domains}
 use Rattle.rx_cover.specs.declared.cover_tree.CoverTree.{CoverTree}
 use Rattle.rx_inference.specs.declared.step.Step.{Step}
 use Rattle.rx_pairs.specs.declared.pair_cert.PairCert.{PairCert}
 use Rattle.rx_log.specs.declared.log.Log.{Log}
-use Rattle.rx_log.specs.Lines.{before_end, before_ranks, by_symbol, log_lines, plain}
-use Rattle.rx_logtext.specs.Logs.{HasLines}
+use Rattle.rx_log.specs.Lines.{before_covers, before_end, before_ranks, by_symbol, log_lines, plain, version_of}
+use Rattle.rx_logtext.specs.Lines.{lines_of}
+use Rattle.rx_logtext.specs.Logs.{HasLines, line_texts, log_texts}
 use Rattle.rx_log.specs.Reading.{blank, pushed}
 use Rattle.rx_log.specs.declared.line.Line.{Line}
 use Rattle.rx_log.specs.declared.line.Line.TheVariants as line
-use Rattle.rx_logtext.proofs.Taking.{of_ranges, same_lines}
+use Rattle.rx_log.specs.declared.version.Version.{Version}
+use Rattle.rx_logtext.proofs.Taking.{of_ranges, same_lines, same_log_version}
 use Rattle.rx_logtext.proofs.Unique.{lines_one}
 
 -- the log with what lines say, one after the other
@@ -66,15 +72,43 @@ of_pairs log (x ∷ xs) =
     ∙ ap (λ (ys : List PairCert). let it : Log = record log { pairs = ys } in it)
     (append_assoc log.pairs (x ∷ []) xs)
 
--- the log with covers and steps alone
+-- the log with domains alone
+abbrev with_some : List (List Row) → List (List Cert) → Log
+with_some rows keeps = record blank { domains = Some (record { rows = rows; keeps = keeps }) }
+
+of_rows : (k : ℕ) (rows xs : List (List Row)) →
+    gathered (with_some rows []) (by_symbol line.Domain k xs) ≡ with_some (rows ++ xs) []
+of_rows k rows [] = ap (λ (ys : List (List Row)). with_some ys []) (sym (append-nil rows))
+of_rows k rows (x ∷ xs) =
+    of_rows (k + 1) (rows ++ x ∷ []) xs
+    ∙ ap (λ (ys : List (List Row)). with_some ys []) (append_assoc rows (x ∷ []) xs)
+
+of_keeps : (rows : List (List Row)) (keeps xs : List (List Cert)) →
+    gathered (with_some rows keeps) (plain line.Keep xs) ≡ with_some rows (keeps ++ xs)
+of_keeps rows keeps [] = ap (with_some rows) (sym (append-nil keeps))
+of_keeps rows keeps (x ∷ xs) =
+    of_keeps rows (keeps ++ x ∷ []) xs ∙ ap (with_some rows) (append_assoc keeps (x ∷ []) xs)
+
+of_domains : (d : Option Domains) → gathered blank (before_covers d) ≡ record blank { domains = d }
+of_domains None = refl
+of_domains (Some d) =
+    gathered-append (with_some [] []) (by_symbol line.Domain 0 d.rows) (plain line.Keep d.keeps)
+    ∙ ap (λ (l : Log). gathered l (plain line.Keep d.keeps)) (of_rows 0 [] d.rows)
+    ∙ of_keeps d.rows [] d.keeps
+
+-- the log with domains, covers and steps alone
 abbrev begun : Log → Log
-begun log = record blank { covers = log.covers; steps = log.steps }
+begun log = record blank { domains = log.domains; covers = log.covers; steps = log.steps }
 
 of_front : (log : Log) → gathered blank (before_ranks log) ≡ begun log
 of_front log =
-    gathered-append blank (by_symbol line.Cover 0 log.covers) (plain line.Step log.steps)
-    ∙ ap (λ (l : Log). gathered l (plain line.Step log.steps)) (of_covers blank 0 log.covers)
-    ∙ of_steps (record blank { covers = log.covers }) log.steps
+    let b : Log = record blank { domains = log.domains } in
+    let s : List (Line × ℕ) = plain line.Step log.steps in
+    gathered-append blank (before_covers log.domains) (by_symbol line.Cover 0 log.covers ++ s)
+    ∙ ap (λ (l : Log). gathered l (by_symbol line.Cover 0 log.covers ++ s)) (of_domains log.domains)
+    ∙ gathered-append b (by_symbol line.Cover 0 log.covers) s
+    ∙ ap (λ (l : Log). gathered l s) (of_covers b 0 log.covers)
+    ∙ of_steps (record b { covers = log.covers }) log.steps
 
 of_back : (log : Log) → gathered blank (before_end log) ≡ log
 of_back log =
@@ -95,7 +129,15 @@ of_lines log = gathered-append blank (before_end log) ((line.End, 0) ∷ []) ∙
 pub given_by_lines : (texts : List (List ℕ)) (a b : Log) → HasLines a texts → HasLines b texts → a ≡
     b
 given_by_lines texts a b p q =
+    let both : log_texts a ≡ log_texts b = p.are ∙ sym q.are in
+    let like : version_of a ≡ version_of b = same_log_version a b both in
+    let v : Version = version_of b in
+    let all : list_all (lines_of v).in_range (log_lines a) ≡ true =
+    subst (λ (w : Version). list_all (lines_of w).in_range (log_lines a) ≡ true) like
+    (of_ranges a p.in_range) in
+    let are : line_texts v (log_lines a) ≡ log_texts b =
+    subst (λ (w : Version). line_texts w (log_lines a) ≡ log_texts b) like both in
     sym (of_lines a)
-    ∙ ap (gathered blank) (same_lines lines_one (log_lines a) (log_lines b) (of_ranges a p.in_range)
-    (of_ranges b q.in_range) (p.are ∙ sym q.are))
+    ∙ ap (gathered blank) (same_lines v (lines_one v) (log_lines a) (log_lines b) all
+    (of_ranges b q.in_range) are)
     ∙ of_lines b

@@ -6,7 +6,7 @@ use Rattle.std.specs.Fmt.{digit_glyph, digits, digits_onto}
 use Rattle.rx_text.specs.Formats.{Format}
 use Rattle.rx_text.specs.Numbers.{integer_text, natural_text}
 use Rattle.rx_words.specs.Words.{counted, each_spaced, pairs}
-use Rattle.rx_logtext.specs.Lines.{lines}
+use Rattle.rx_logtext.specs.Lines.{in_line}
 use Rattle.rx_logtext.specs.Logs.{is_one_line}
 
 -- each text is one line
@@ -16,7 +16,7 @@ AreOneLine {A} text = (thing : A) → is_one_line (text thing) ≡ true
 pub joined : (xs ys : List ℕ) → is_one_line xs ≡ true → is_one_line ys ≡ true
     → is_one_line (xs ++ ys) ≡ true
 joined xs ys p q =
-    list_all-append lines.goes_on xs ys ∙ and_from (is_one_line xs) (is_one_line ys) p q
+    list_all-append in_line xs ys ∙ and_from (is_one_line xs) (is_one_line ys) p q
 
 pub spread : {A : Type 0} (text : A → List ℕ) → AreOneLine text → (things : List A)
     → is_one_line (flat_map text things) ≡ true

@@ -4,8 +4,8 @@ use Rattle.std.proofs.lemmas.Bool.{and_parts}
 use Rattle.std.proofs.lemmas.List.{append-nil}
 use Rattle.std.specs.List.{list_all}
 use Rattle.rx_log.specs.declared.log.Log.{Log}
-use Rattle.rx_log.specs.Lines.{log_lines}
-use Rattle.rx_logtext.specs.Logs.{Begins, IsFirstBad, IsLog, ended, is_one_line, line_texts}
+use Rattle.rx_log.specs.Lines.{log_lines, version_of}
+use Rattle.rx_logtext.specs.Logs.{Begins, IsFirstBad, IsLog, ended, is_one_line, log_texts}
 use Rattle.rx_logtext.proofs.Cuts.{cut_once}
 use Rattle.rx_logtext.proofs.Gathered.{given_by_lines}
 use Rattle.rx_logtext.proofs.OneLineLines.{each_is_one_line}
@@ -103,14 +103,11 @@ nothing_ended : (next rest : List ℕ) → [] ≡ next ++ 10 ∷ rest → ⊥
 nothing_ended [] rest e = cc
 nothing_ended (byte ∷ next) rest e = cc
 
-abbrev texts_of : Log → List (List ℕ)
-texts_of log = line_texts (log_lines log)
+texts_one_line : (log : Log) → list_all is_one_line (log_texts log) ≡ true
+texts_one_line log = each_is_one_line (version_of log) (log_lines log)
 
-texts_one_line : (log : Log) → list_all is_one_line (texts_of log) ≡ true
-texts_one_line log = each_is_one_line (log_lines log)
-
-whole_text : {text : List ℕ} {log : Log} → IsLog text log → text ≡ ended (texts_of log) ++ []
-whole_text {text} {log} a = a.is ∙ sym (append-nil (ended (texts_of log)))
+whole_text : {text : List ℕ} {log : Log} → IsLog text log → text ≡ ended (log_texts log) ++ []
+whole_text {text} {log} a = a.is ∙ sym (append-nil (ended (log_texts log)))
 
 -- the lines of a text are those of its log
 same_texts : {xs ys : List (List ℕ)} → GoesOn xs ys [] [] → xs ≡ ys
@@ -123,14 +120,14 @@ same_texts {xs} {ys} g = by g.more g.whole g.is
 
 pub one_log : (text : List ℕ) (a b : Log) → IsLog text a → IsLog text b → a ≡ b
 one_log text a b p q =
-    let both : ended (texts_of a) ++ [] ≡ ended (texts_of b) ++ [] =
+    let both : ended (log_texts a) ++ [] ≡ ended (log_texts b) ++ [] =
     sym (whole_text p) ∙ whole_text q in
-    let same : texts_of a ≡ texts_of b =
-    elim (compared (texts_of a) (texts_of b) [] [] (texts_one_line a) (texts_one_line b) both) [
+    let same : log_texts a ≡ log_texts b =
+    elim (compared (log_texts a) (log_texts b) [] [] (texts_one_line a) (texts_one_line b) both) [
       | inl g ↦ same_texts g
       | inr g ↦ sym (same_texts g)
     ] in
-    given_by_lines (texts_of b) a b (record { in_range = p.in_range; are = same })
+    given_by_lines (log_texts b) a b (record { in_range = p.in_range; are = same })
     (record { in_range = q.in_range; are = refl })
 
 -- ---- a log or a bad line
@@ -138,10 +135,10 @@ one_log text a b p q =
 module _ {text : List ℕ} {log : Log} {number : ℕ} (a : IsLog text log) (b : IsFirstBad text number)
   where
     -- the log has more lines than those before the bad one, or just these
-    lines_after : GoesOn b.before (texts_of log) b.left [] → ⊥
+    lines_after : GoesOn b.before (log_texts log) b.left [] → ⊥
     lines_after g = by g.more g.whole g.one_by_one g.is
       where
-        by : (more : List (List ℕ)) → texts_of log ≡ b.before ++ more
+        by : (more : List (List ℕ)) → log_texts log ≡ b.before ++ more
             → list_all is_one_line more ≡ true → b.left ≡ ended more ++ [] → ⊥
         by [] whole one is =
             b.missing is log
@@ -157,23 +154,23 @@ module _ {text : List ℕ} {log : Log} {number : ℕ} (a : IsLog text log) (b : 
             })
 
     -- the lines before the bad one are those of the log and more
-    lines_before : GoesOn (texts_of log) b.before [] b.left → ⊥
+    lines_before : GoesOn (log_texts log) b.before [] b.left → ⊥
     lines_before g = by g.more g.whole g.is
       where
-        by : (more : List (List ℕ)) → b.before ≡ texts_of log ++ more
+        by : (more : List (List ℕ)) → b.before ≡ log_texts log ++ more
             → [] ≡ ended more ++ b.left → ⊥
         by [] whole is =
             b.missing (sym is) log
-            (record { in_range = a.in_range; are = sym (whole ∙ append-nil (texts_of log)) })
+            (record { in_range = a.in_range; are = sym (whole ∙ append-nil (log_texts log)) })
         by (next ∷ more) whole is =
             nothing_ended next (ended more ++ b.left) (is ∙ regroup next more b.left)
 
 pub never_both : (text : List ℕ) (log : Log) (number : ℕ) → IsLog text log
     → ¬ (IsFirstBad text number)
 never_both text log number a b =
-    let both : ended b.before ++ b.left ≡ ended (texts_of log) ++ [] =
+    let both : ended b.before ++ b.left ≡ ended (log_texts log) ++ [] =
     sym b.joined ∙ whole_text a in
-    elim (compared b.before (texts_of log) b.left [] b.one_by_one (texts_one_line log) both) [
+    elim (compared b.before (log_texts log) b.left [] b.one_by_one (texts_one_line log) both) [
       | inl g ↦ lines_after a b g
       | inr g ↦ lines_before a b g
     ]

@@ -5,16 +5,17 @@ use Rattle.std.proofs.lemmas.List.{append-nil}
 use Rattle.std.proofs.lemmas.List.Folds.{list_all-append}
 use Rattle.std.proofs.Math.Seq.{drop-append_seam}
 use Rattle.std.specs.List.{list_all}
-use Rattle.rx_log.specs.Lines.{has_widths, log_lines}
+use Rattle.rx_log.specs.Lines.{has_widths, log_lines, version_of}
 use Rattle.rx_log.specs.Reading.{lines_to, pushed}
 use Rattle.rx_log.specs.declared.line.Line.{Line}
 use Rattle.rx_log.specs.declared.log.Log.{Log}
 use Rattle.rx_log.specs.declared.line_state.LineState.{LineState}
 use Rattle.rx_log.specs.declared.line_state.LineState.TheVariants.{Finished}
-use Rattle.rx_logtext.specs.Lines.{lines}
+use Rattle.rx_log.specs.declared.version.Version.{Version}
+use Rattle.rx_logtext.specs.Lines.{in_line, lines_of}
 use Rattle.rx_logtext.specs.Logs.{Begins, IsFirstBad, IsLog, ReadsLog, ended, has_ranges, is_one_line, up_to_feed}
 use Rattle.rx_logtext.specs.Reading.{HasTaken, ReadsNext}
-use Rattle.rx_logtext.specs.Readers.{Finishes, HasTakenAll, IsBadNext, IsLeft, IsReadAlike, IsWhole, StandsFor, Takes, count_of, pushed_if, taken_of}
+use Rattle.rx_logtext.specs.Readers.{Finishes, HasTakenAll, IsBadNext, IsLeft, IsReadAlike, IsWhole, StandsFor, Takes, count_of, pushed_if, taken_of, version_after}
 use Rattle.rx_logtext.specs.declared.log_end.LogEnd.{LogEnd}
 use Rattle.rx_logtext.specs.declared.log_end.LogEnd.TheVariants as end
 use Rattle.rx_logtext.specs.declared.reader.LogReader.{LogReader}
@@ -23,7 +24,7 @@ use Rattle.rx_logtext.proofs.OneLine as one_line
 use Rattle.rx_logtext.proofs.OneLineLines.{each_is_one_line}
 use Rattle.rx_logtext.proofs.OneReading.{never_both, one_bad_line, one_log}
 use Rattle.rx_logtext.proofs.Readers.{far_from_end, none_begins, one_taken}
-use Rattle.rx_logtext.proofs.Taking.{taken_begins}
+use Rattle.rx_logtext.proofs.Taking.{taken_begins, version_pushed}
 
 -- ---- lines and what is left after them
 
@@ -43,7 +44,7 @@ not_nil (x ∷ xs) rest e = cc
 not_one_line : (left next rest : List ℕ) → is_one_line left ≡ true → left ≡ next ++ 10 ∷ rest → ⊥
 not_one_line left next rest one e =
     let split : is_one_line (next ++ 10 ∷ rest) ≡ (is_one_line next && false) =
-    list_all-append lines.goes_on next (10 ∷ rest) in
+    list_all-append in_line next (10 ∷ rest) in
     let f : is_one_line next && false ≡ true = sym split ∙ ap is_one_line (sym e) ∙ one in
     never_true (is_one_line next) f
 
@@ -63,7 +64,7 @@ one_by_one : {place : LineState} {log : Log} {texts : List (List ℕ)} → HasTa
     list_all is_one_line texts ≡ true
 one_by_one {place} {log} {texts} h =
     subst (λ (ts : List (List ℕ)). list_all is_one_line ts ≡ true) h.are
-    (each_is_one_line (lines_to place log))
+    (each_is_one_line (version_of log) (lines_to place log))
 
 -- ---- what a reader represents
 
@@ -94,12 +95,14 @@ go_on bytes before left more e = ap (λ (l : List ℕ). l ++ more) e ∙ append_
 -- a piece without a line feed was taken
 pub part_taken : {old : LogReader} {log : Log} {bytes : List ℕ} (piece : List ℕ) (new : LogReader) →
     StandsFor old log bytes → old.is_bad ≡ false → is_one_line piece ≡ true
-    → new.place ≡ old.place → new.taken ≡ old.taken → new.is_bad ≡ false → new.line ≡ old.line ++
+    → new.version ≡ old.version → new.place ≡ old.place → new.taken ≡ old.taken → new.is_bad
+    ≡ false → new.line ≡ old.line ++
     piece → StandsFor new log (bytes ++ piece)
-part_taken {old} {log} {bytes} piece new h good one at count still line =
+part_taken {old} {log} {bytes} piece new h good one version at count still line =
     let g = good_left h good in
     record {
       texts = h.texts;
+      version = version ∙ h.version;
       taken = subst (λ (p : LineState). HasTaken p log h.texts) (sym at) h.taken;
       counted = count ∙ h.counted;
       left = h.left ++ piece;
@@ -112,10 +115,11 @@ part_taken {old} {log} {bytes} piece new h good one at count still line =
 -- the next line was taken
 pub line_taken : {old : LogReader} {log : Log} {bytes : List ℕ} (front : List ℕ) (read : Line)
     (next : LineState) (new : LogReader) → StandsFor old log bytes → old.is_bad ≡ false
-    → ReadsNext old.place (old.line ++ front) (Some (read, next)) → new.place ≡ next → new.taken ≡
+    → ReadsNext old.version old.place (old.line ++ front) (Some (read, next))
+    → new.version ≡ version_after old.version read → new.place ≡ next → new.taken ≡
     suc old.taken → new.is_bad ≡ false → new.line ≡ []
     → StandsFor new (pushed read log) (bytes ++ (front ++ 10 ∷ []))
-line_taken {old} {log} {bytes} front read next new h good reads at count still line =
+line_taken {old} {log} {bytes} front read next new h good reads version at count still line =
     let g = good_left h good in
     let text : List ℕ = old.line ++ front in
     let whole : h.left ++ (front ++ 10 ∷ []) ≡ text ++ 10 ∷ [] =
@@ -123,9 +127,14 @@ line_taken {old} {log} {bytes} front read next new h good reads at count still l
     sym (append_assoc old.line front (10 ∷ [])) in
     record {
       texts = h.texts ++ text ∷ [];
+      version =
+          version ∙ ap (λ (v : Version). version_after v read) h.version
+          ∙ version_pushed read log;
       taken =
           subst (λ (p : LineState). HasTaken p (pushed read log) (h.texts ++ text ∷ [])) (sym at)
-          (one_taken old.place next log h.texts text read reads h.taken);
+          (one_taken old.place next log h.texts text read
+          (subst (λ (v : Version). ReadsNext v old.place text (Some (read, next))) h.version reads)
+          h.taken);
       counted = omega (arith, count, h.counted, length-append h.texts (text ∷ []));
       left = [];
       joined =
@@ -139,12 +148,14 @@ line_taken {old} {log} {bytes} front read next new h good reads at count still l
 -- a line with which no log begins was met
 pub line_bad : {old : LogReader} {log : Log} {bytes : List ℕ} (front : List ℕ) (new : LogReader) →
     StandsFor old log bytes → old.is_bad ≡ false → is_one_line front ≡ true
-    → ReadsNext old.place (old.line ++ front) None → new.place ≡ old.place → new.taken ≡ old.taken →
+    → ReadsNext old.version old.place (old.line ++ front) None → new.version ≡ old.version →
+    new.place ≡ old.place → new.taken ≡ old.taken →
     new.is_bad ≡ true → StandsFor new log (bytes ++ (front ++ 10 ∷ []))
-line_bad {old} {log} {bytes} front new h good one reads at count bad =
+line_bad {old} {log} {bytes} front new h good one reads version at count bad =
     let g = good_left h good in
     record {
       texts = h.texts;
+      version = version ∙ h.version;
       taken = subst (λ (p : LineState). HasTaken p log h.texts) (sym at) h.taken;
       counted = count ∙ h.counted;
       left = h.left ++ (front ++ 10 ∷ []);
@@ -157,7 +168,9 @@ line_bad {old} {log} {bytes} front new h good one reads at count bad =
             one = one_line.joined h.left front g.1 one;
             bad =
                 subst (λ (l : List ℕ). ¬ (Begins (h.texts ++ (l ++ front) ∷ []))) (sym g.0)
-                (none_begins old.place log h.texts (old.line ++ front) reads h.taken);
+                (none_begins old.place log h.texts (old.line ++ front)
+                (subst (λ (v : Version). ReadsNext v old.place (old.line ++ front) None) h.version
+                reads) h.taken);
           });
     }
 
@@ -218,7 +231,8 @@ by_bad {reader} {log} {bytes} false good h rest = ends_early h good (λ at line.
 ranges_of : {log : Log} {texts : List (List ℕ)} → HasTaken Finished log texts → has_ranges log ≡
     true
 ranges_of {log} h =
-    and_from (list_all lines.in_range (log_lines log)) (has_widths log) h.in_range h.widths
+    and_from (list_all (lines_of (version_of log)).in_range (log_lines log)) (has_widths log)
+    h.in_range h.widths
 
 pub whole_text : {reader : LogReader} {log : Log} {bytes : List ℕ} → StandsFor reader log bytes →
     IsWhole reader true → IsLog bytes log

@@ -2,9 +2,10 @@
 use Rattle.std.specs.Prelude.{◌≡◌, ℕ, suc, ◌==◌, Bool, true, ◌&&◌, Option, Some, None, Result, Ok, Err, List, [], ◌∷◌, ◌++◌, length, map, flat_map, if◌then◌else◌}
 use Rattle.std.specs.List.{list_all}
 use Rattle.rx_log.specs.declared.log.Log.{Log}
-use Rattle.rx_log.specs.Lines.{has_widths, log_lines}
-use Rattle.rx_logtext.specs.Lines.{lines}
+use Rattle.rx_log.specs.Lines.{has_widths, log_lines, version_of}
+use Rattle.rx_logtext.specs.Lines.{in_line, lines_of}
 use Rattle.rx_log.specs.declared.line.Line.{Line}
+use Rattle.rx_log.specs.declared.version.Version.{Version}
 use Rattle.rx_logtext.specs.declared.log_end.LogEnd.{LogEnd}
 use Rattle.rx_logtext.specs.declared.log_end.LogEnd.TheVariants as end
 
@@ -14,17 +15,22 @@ use Rattle.rx_logtext.specs.declared.log_end.LogEnd.TheVariants as end
 abbrev pub ended : List (List ℕ) → List ℕ
 ended texts = flat_map (λ text. text ++ 10 ∷ []) texts
 
--- the text of each of the lines
-abbrev pub line_texts : List (Line × ℕ) → List (List ℕ)
-line_texts its = map lines.text its
+-- the text of each of the lines in logs of a version
+abbrev pub line_texts : Version → List (Line × ℕ) → List (List ℕ)
+line_texts version its = map (lines_of version).text its
+
+-- the text of each line of a log
+abbrev pub log_texts : Log → List (List ℕ)
+log_texts log = line_texts (version_of log) (log_lines log)
 
 -- the text of a log
 abbrev pub log_text : Log → List ℕ
-log_text log = ended (line_texts (log_lines log))
+log_text log = ended (log_texts log)
 
 -- all in it has a text
 abbrev pub has_ranges : Log → Bool
-has_ranges log = list_all lines.in_range (log_lines log) && has_widths log
+has_ranges log =
+    list_all (lines_of (version_of log)).in_range (log_lines log) && has_widths log
 
 -- the bytes are the text of the log
 pub record IsLog (text : List ℕ) (log : Log) : Type 0 where
@@ -36,18 +42,18 @@ pub record IsLog (text : List ℕ) (log : Log) : Type 0 where
 -- a log has just these lines
 pub record HasLines (log : Log) (texts : List (List ℕ)) : Type 0 where
   pub in_range : has_ranges log ≡ true
-  pub are : line_texts (log_lines log) ≡ texts
+  pub are : log_texts log ≡ texts
 
 -- some log begins with these lines
 pub record Begins (texts : List (List ℕ)) : Type 0 where
   pub log : Log
   pub in_range : has_ranges log ≡ true
   pub more : List (List ℕ)
-  pub are : line_texts (log_lines log) ≡ texts ++ more
+  pub are : log_texts log ≡ texts ++ more
 
 -- no line feed is among the bytes
 abbrev pub is_one_line : List ℕ → Bool
-is_one_line bytes = list_all lines.goes_on bytes
+is_one_line bytes = list_all in_line bytes
 
 -- The line with this number, counted from 1, is the first with which no log begins. The text begins
 -- with the lines before it, and so does some log. The next line of the text is one with which none

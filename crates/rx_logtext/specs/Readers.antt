@@ -1,11 +1,15 @@
 -- What a reader that is fed a text piece by piece keeps of it, and what it answers.
 use Rattle.std.specs.Prelude.{◌≡◌, ◌⊎◌, ℕ, suc, Bool, true, false, Option, Some, None, Result, Ok, Err, List, [], ◌∷◌, ◌++◌, length}
+use Rattle.rx_log.specs.Lines.{version_of}
 use Rattle.rx_log.specs.Places.{after}
 use Rattle.rx_log.specs.Reading.{pushed}
 use Rattle.rx_log.specs.declared.line.Line.{Line}
+use Rattle.rx_log.specs.declared.line.Line.TheVariants as line
 use Rattle.rx_log.specs.declared.log.Log.{Log}
 use Rattle.rx_log.specs.declared.line_state.LineState.{LineState}
 use Rattle.rx_log.specs.declared.line_state.LineState.TheVariants.{Finished}
+use Rattle.rx_log.specs.declared.version.Version.{Version}
+use Rattle.rx_log.specs.declared.version.Version.TheVariants.{Two}
 use Rattle.rx_logtext.specs.Logs.{Begins, IsFirstBad, IsLog, ended, is_one_line, up_to_feed}
 use Rattle.rx_logtext.specs.Reading.{HasTaken}
 use Rattle.rx_logtext.specs.declared.log_end.LogEnd.{LogEnd}
@@ -30,6 +34,7 @@ IsLeft true line texts left = IsBadNext texts left
 -- them the next line so far, or a line with which no log begins.
 pub record StandsFor (reader : LogReader) (log : Log) (bytes : List ℕ) : Type 0 where
   pub texts : List (List ℕ)
+  pub version : reader.version ≡ version_of log
   pub taken : HasTaken reader.place log texts
   pub counted : reader.taken ≡ length texts
   pub left : List ℕ
@@ -42,6 +47,11 @@ place_of reader = reader.place
 
 abbrev pub lines_in : LogReader → ℕ
 lines_in reader = reader.taken
+
+-- the version of a log after one line more
+abbrev pub version_after : Version → Line → Version
+version_after version line.Header2 = Two
+version_after version other = version
 
 -- no log begins with the last line
 abbrev pub has_bad : LogReader → Bool

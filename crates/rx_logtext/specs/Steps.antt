@@ -9,6 +9,8 @@ use Rattle.rx_inference.specs.declared.step.Side.{Side}
 use Rattle.rx_inference.specs.declared.step.Side.TheVariants.{Left, Right}
 use Rattle.rx_inference.specs.declared.step.Step.{Step}
 use Rattle.rx_inference.specs.declared.step.Step.TheVariants as step
+use Rattle.rx_log.specs.declared.version.Version.{Version}
+use Rattle.rx_log.specs.declared.version.Version.TheVariants.{One, Two}
 use Rattle.rx_text.specs.Formats.{Format}
 use Rattle.rx_text.specs.Rows.{row_format}
 use Rattle.rx_words.specs.Certificates.{certificate_lists, certificates}
@@ -51,6 +53,12 @@ expand_parts = pairs sides keeps
 abbrev pub generalise_parts : Format (Equation × (List (ℕ × Body) × List Cert))
 generalise_parts = pairs equations (pairs substitutions certificate_lists)
 
+-- the new goal, and certificates, of which version 1 has none
+abbrev pub postulate_parts : Version → Format (Equation × List Cert)
+postulate_parts One =
+    words (λ it. equations.text it.0) (λ it. is_empty it.1 && equations.in_range it.0)
+postulate_parts Two = pairs equations certificate_lists
+
 -- how many frames are over the part of the left side and of the right side, certificates
 abbrev pub results_parts : Format (ℕ × (ℕ × List Cert))
 results_parts = pairs numbers (pairs numbers certificate_lists)
@@ -58,46 +66,55 @@ results_parts = pairs numbers (pairs numbers certificate_lists)
 -- ---- steps
 
 -- a line of a step, without what ends it
-abbrev pub step_text : Step → List ℕ
-step_text (step.Simplify side rule certs) =
+abbrev pub step_text : Version → Step → List ℕ
+step_text version (step.Simplify side rule certs) =
     spaced (codes "simplify" ∷ simplify_parts.text (side, (rule, certs)) ∷ [])
-step_text (step.Hyp side place hyp subst certs) =
+step_text version (step.Hyp side place hyp subst certs) =
     spaced (codes "hyp" ∷ hyp_parts.text (side, (place, (hyp, (subst, certs)))) ∷ [])
-step_text (step.Expand side keep) = spaced (codes "expand" ∷ expand_parts.text (side, keep) ∷ [])
-step_text (step.Delete (Absurd cert)) = spaced (codes "absurd" ∷ certificates.text cert ∷ [])
-step_text (step.Delete (Equal certs)) = spaced (codes "equal" ∷ certificate_lists.text certs ∷ [])
-step_text step.EqDelete = codes "eqdelete"
-step_text (step.Generalise left right rows subst certs) =
+step_text version (step.Expand side keep) =
+    spaced (codes "expand" ∷ expand_parts.text (side, keep) ∷ [])
+step_text version (step.Delete (Absurd cert)) =
+    spaced (codes "absurd" ∷ certificates.text cert ∷ [])
+step_text version (step.Delete (Equal certs)) =
+    spaced (codes "equal" ∷ certificate_lists.text certs ∷ [])
+step_text version step.EqDelete = codes "eqdelete"
+step_text version (step.Generalise left right rows subst certs) =
     spaced (codes "generalise"
     ∷ generalise_parts.text (record { left = left; right = right; rows = rows }, (subst, certs))
     ∷ [])
-step_text (step.Postulate left right rows certs) =
+step_text version (step.Postulate left right rows certs) =
     spaced (codes "postulate"
-    ∷ equations.text (record { left = left; right = right; rows = rows }) ∷ [])
-step_text (step.Split row) = spaced (codes "split" ∷ row_format.text row ∷ [])
-step_text (step.Decompose certs) =
+    ∷ (postulate_parts version).text (record { left = left; right = right; rows = rows }, certs)
+    ∷ [])
+step_text version (step.Split row) = spaced (codes "split" ∷ row_format.text row ∷ [])
+step_text version (step.Decompose certs) =
     spaced (codes "decompose" ∷ certificate_lists.text certs ∷ [])
-step_text (step.Results left right certs) =
+step_text version (step.Results left right certs) =
     spaced (codes "results" ∷ results_parts.text (left, (right, certs)) ∷ [])
 
--- all in it has a text; a postulate has no certificates
-abbrev pub is_readable_step : Step → Bool
-is_readable_step (step.Simplify side rule certs) = simplify_parts.in_range (side, (rule, certs))
-is_readable_step (step.Hyp side place hyp subst certs) =
+-- all in it has a text
+abbrev pub is_readable_step : Version → Step → Bool
+is_readable_step version (step.Simplify side rule certs) =
+    simplify_parts.in_range (side, (rule, certs))
+is_readable_step version (step.Hyp side place hyp subst certs) =
     hyp_parts.in_range (side, (place, (hyp, (subst, certs))))
-is_readable_step (step.Expand side keep) = expand_parts.in_range (side, keep)
-is_readable_step (step.Delete (Absurd cert)) = certificates.in_range cert
-is_readable_step (step.Delete (Equal certs)) = certificate_lists.in_range certs
-is_readable_step step.EqDelete = true
-is_readable_step (step.Generalise left right rows subst certs) =
+is_readable_step version (step.Expand side keep) = expand_parts.in_range (side, keep)
+is_readable_step version (step.Delete (Absurd cert)) = certificates.in_range cert
+is_readable_step version (step.Delete (Equal certs)) = certificate_lists.in_range certs
+is_readable_step version step.EqDelete = true
+is_readable_step version (step.Generalise left right rows subst certs) =
     generalise_parts.in_range (record { left = left; right = right; rows = rows }, (subst, certs))
-is_readable_step (step.Postulate left right rows certs) =
-    is_empty certs && equations.in_range (record { left = left; right = right; rows = rows })
-is_readable_step (step.Split row) = row_format.in_range row
-is_readable_step (step.Decompose certs) = certificate_lists.in_range certs
-is_readable_step (step.Results left right certs) =
+is_readable_step version (step.Postulate left right rows certs) =
+    (postulate_parts version).in_range (record { left = left; right = right; rows = rows }, certs)
+is_readable_step version (step.Split row) = row_format.in_range row
+is_readable_step version (step.Decompose certs) = certificate_lists.in_range certs
+is_readable_step version (step.Results left right certs) =
     results_parts.in_range (left, (right, certs))
 
--- the text of steps; a line goes on up to a line feed
-abbrev pub steps : Format Step
-steps = record { text = step_text; in_range = is_readable_step; goes_on = λ byte. not (byte == 10) }
+-- the text of steps in logs of a version; a line goes on up to a line feed
+abbrev pub steps_of : Version → Format Step
+steps_of version = record {
+  text = step_text version;
+  in_range = is_readable_step version;
+  goes_on = λ byte. not (byte == 10);
+}

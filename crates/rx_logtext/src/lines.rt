@@ -1,20 +1,23 @@
 //! Lines, read from bytes.
 ghost use Rattle.std.specs.Prelude.{◌≡◌, ◌≤◌, ◌++◌, None, codes, true, drop, length, IfOk};
+ghost use Rattle.rx_log.specs.declared.version.Version.TheVariants.{One, Two};
 ghost use Rattle.rx_text.specs.Formats.{is_over};
 ghost use Rattle.rx_words.specs.Words.{in_word, words};
-ghost use Rattle.rx_logtext.specs.Lines.{ReadsAll, ReadsEach, ReadsLine, lines};
+ghost use Rattle.rx_logtext.specs.Frames.{IsNoFront, IsNoMark};
+ghost use Rattle.rx_logtext.specs.Lines.{ReadsAll, ReadsEach, ReadsLine, lines_of};
+ghost use Rattle.rx_logtext.specs.Steps.{steps_of};
 ghost use Rattle.rx_logtext.specs.Lines as spec;
-ghost use Rattle.rx_logtext.specs.Steps.{steps};
 
 use crate::log_end::LogEnd;
 use crate::part::{Part, is_word, read_rest, skip_beginning};
 use crate::steps::read_step;
 use rx_cert::Cert;
 use rx_cover::CoverTree;
-use rx_log::Line;
+use rx_log::{Line, Version};
 use rx_pairs::PairCert;
 use rx_plain::{Items, NoMemory};
 use rx_poly::Poly;
+use rx_row::{Constraint, Row};
 use rx_text::skip_word;
 use rx_words::read_number;
 use std::alloc::Global;
@@ -45,10 +48,50 @@ fn read_each<T: Part>(
     Ok(Some(parts))
 }
 
+/// A line that begins with `domain s`.
+fn read_domain(
+    alloc: Global,
+    version: Version,
+    line: &[u8],
+    at: usize,
+) -> Result<Option<(Line, u32)>, NoMemory>
+    requires { line.now ≡ codes "domain s" ++ drop at line.now }
+    ensures { IfOk result (ReadsAll (lines_of version) line.now) }
+{
+    match read_rest::<(u32, Items<Row>)>(alloc, line, at)? {
+        Some((symbol, rows)) => {
+            let rows = Constraint::from_rows(rows.into_vec());
+            Ok(Some((Line::Domain(rows), symbol)))
+        }
+        None => Ok(None),
+    }
+}
+
+/// A line that begins with `keep `.
+fn read_keep(
+    alloc: Global,
+    version: Version,
+    line: &[u8],
+    at: usize,
+) -> Result<Option<(Line, u32)>, NoMemory>
+    requires { line.now ≡ codes "keep " ++ drop at line.now }
+    ensures { IfOk result (ReadsAll (lines_of version) line.now) }
+{
+    match read_rest::<Items<Cert>>(alloc, line, at)? {
+        Some(certs) => Ok(Some((Line::Keep(certs), 0))),
+        None => Ok(None),
+    }
+}
+
 /// A line that begins with `cover s`.
-fn read_cover(alloc: Global, line: &[u8], at: usize) -> Result<Option<(Line, u32)>, NoMemory>
+fn read_cover(
+    alloc: Global,
+    version: Version,
+    line: &[u8],
+    at: usize,
+) -> Result<Option<(Line, u32)>, NoMemory>
     requires { line.now ≡ codes "cover s" ++ drop at line.now }
-    ensures { IfOk result (ReadsAll lines line.now) }
+    ensures { IfOk result (ReadsAll (lines_of version) line.now) }
 {
     let Some((symbol, end)) = read_number(line, at) else {
         return Ok(None);
@@ -67,9 +110,14 @@ pub fn is_width(columns: usize) -> bool
 }
 
 /// A line that begins with `rank s`.
-fn read_rank(alloc: Global, line: &[u8], at: usize) -> Result<Option<(Line, u32)>, NoMemory>
+fn read_rank(
+    alloc: Global,
+    version: Version,
+    line: &[u8],
+    at: usize,
+) -> Result<Option<(Line, u32)>, NoMemory>
     requires { line.now ≡ codes "rank s" ++ drop at line.now }
-    ensures { IfOk result (ReadsAll lines line.now) }
+    ensures { IfOk result (ReadsAll (lines_of version) line.now) }
 {
     let Some((symbol, end)) = read_number(line, at) else {
         return Ok(None);
@@ -87,9 +135,14 @@ fn read_rank(alloc: Global, line: &[u8], at: usize) -> Result<Option<(Line, u32)
 }
 
 /// A line that begins with `ranks `.
-fn read_ranks(alloc: Global, line: &[u8], at: usize) -> Result<Option<(Line, u32)>, NoMemory>
+fn read_ranks(
+    alloc: Global,
+    version: Version,
+    line: &[u8],
+    at: usize,
+) -> Result<Option<(Line, u32)>, NoMemory>
     requires { line.now ≡ codes "ranks " ++ drop at line.now }
-    ensures { IfOk result (ReadsAll lines line.now) }
+    ensures { IfOk result (ReadsAll (lines_of version) line.now) }
 {
     match read_rest::<u32>(alloc, line, at)? {
         Some(columns) => {
@@ -104,9 +157,14 @@ fn read_ranks(alloc: Global, line: &[u8], at: usize) -> Result<Option<(Line, u32
 }
 
 /// A line that begins with `pair `.
-fn read_pair(alloc: Global, line: &[u8], at: usize) -> Result<Option<(Line, u32)>, NoMemory>
+fn read_pair(
+    alloc: Global,
+    version: Version,
+    line: &[u8],
+    at: usize,
+) -> Result<Option<(Line, u32)>, NoMemory>
     requires { line.now ≡ codes "pair " ++ drop at line.now }
-    ensures { IfOk result (ReadsAll lines line.now) }
+    ensures { IfOk result (ReadsAll (lines_of version) line.now) }
 {
     match read_rest::<(u32, Items<Cert>)>(alloc, line, at)? {
         Some((column, certs)) => Ok(Some((Line::Pair(PairCert { column, certs }), 0))),
@@ -114,51 +172,117 @@ fn read_pair(alloc: Global, line: &[u8], at: usize) -> Result<Option<(Line, u32)
     }
 }
 
-/// A line that is no step.
-fn read_frame(alloc: Global, line: &[u8]) -> Result<Option<(Line, u32)>, NoMemory>
-    requires { ReadsAll steps line.now None }
-    ensures { IfOk result (ReadsAll lines line.now) }
+/// A line of ranks or of a pair, where it is none of the others.
+fn read_order(alloc: Global, version: Version, line: &[u8]) -> Result<Option<(Line, u32)>, NoMemory>
+    requires { IsNoFront version line.now }
+    ensures { IfOk result (ReadsAll (lines_of version) line.now) }
 {
-    if is_word(line, b"ctrl-log 1") {
-        return Ok(Some((Line::Header, 0)));
-    }
-    if is_word(line, b"EQUIVALENT") {
-        return Ok(Some((Line::End, 0)));
-    }
-    if let Some(at) = skip_beginning(line, b"cover s") {
-        return read_cover(alloc, line, at);
-    }
     if let Some(at) = skip_beginning(line, b"ranks ") {
-        return read_ranks(alloc, line, at);
+        return read_ranks(alloc, version, line, at);
     }
     if let Some(at) = skip_beginning(line, b"rank s") {
-        return read_rank(alloc, line, at);
+        return read_rank(alloc, version, line, at);
     }
     if let Some(at) = skip_beginning(line, b"pair ") {
-        return read_pair(alloc, line, at);
+        return read_pair(alloc, version, line, at);
     }
     Ok(None)
 }
 
-/// The line that the bytes are, with the number of the symbol in it, or 0 where none is there; None
-/// exactly where the bytes are no line of any log.
-pub(crate) fn read_numbered(alloc: Global, bytes: &[u8]) -> Result<Option<(Line, u32)>, NoMemory>
-    ensures { IfOk result (ReadsAll lines bytes.now) }
+/// A line that is no step, no header and not the end.
+fn read_content(
+    alloc: Global,
+    version: Version,
+    line: &[u8],
+) -> Result<Option<(Line, u32)>, NoMemory>
+    requires { IsNoMark version line.now }
+    ensures { IfOk result (ReadsAll (lines_of version) line.now) }
 {
-    match read_step(alloc, bytes)? {
+    if let Some(at) = skip_beginning(line, b"cover s") {
+        return read_cover(alloc, version, line, at);
+    }
+    if let Some(at) = skip_beginning(line, b"domain s") {
+        return read_domain(alloc, version, line, at);
+    }
+    if let Some(at) = skip_beginning(line, b"keep ") {
+        return read_keep(alloc, version, line, at);
+    }
+    read_order(alloc, version, line)
+}
+
+/// A line that is no step.
+fn read_frame(alloc: Global, version: Version, line: &[u8]) -> Result<Option<(Line, u32)>, NoMemory>
+    requires { ReadsAll (steps_of version) line.now None }
+    ensures { IfOk result (ReadsAll (lines_of version) line.now) }
+{
+    if is_word(line, b"ctrl-log 1") {
+        return Ok(Some((Line::Header, 0)));
+    }
+    if is_word(line, b"ctrl-log 2") {
+        return Ok(Some((Line::Header2, 0)));
+    }
+    if is_word(line, b"EQUIVALENT") {
+        return Ok(Some((Line::End, 0)));
+    }
+    read_content(alloc, version, line)
+}
+
+/// The line that the bytes are in logs of the version, with the number of the symbol in it, or 0
+/// where none is there; None exactly where they are no such line.
+pub(crate) fn read_numbered(
+    alloc: Global,
+    version: Version,
+    bytes: &[u8],
+) -> Result<Option<(Line, u32)>, NoMemory>
+    ensures { IfOk result (ReadsAll (lines_of version) bytes.now) }
+{
+    match read_step(alloc, version, bytes)? {
         Some(step) => Ok(Some((Line::Step(step), 0))),
-        None => read_frame(alloc, bytes),
+        None => read_frame(alloc, version, bytes),
     }
 }
 
-/// The line of a log that the bytes are, given without the line feed that ends it. BadLine with the
-/// number 1 exactly where they are no line of any log. Where a symbol is in it, its number isn't
-/// kept. Fails else only when out of memory.
-pub fn read_line(alloc: Global, bytes: &[u8]) -> Result<Line, LogEnd>
-    ensures { ReadsLine bytes.now result }
+/// Whether logs of the version have lines of this kind.
+fn is_of(version: Version, line: &Line) -> bool
+    ensures { result ≡ spec.is_of version line.now }
 {
-    match read_numbered(alloc, bytes)? {
-        Some((line, _)) => Ok(line),
-        None => Err(LogEnd::BadLine { line: 1 }),
+    match (version, line) {
+        (Version::One, Line::Header2 | Line::Domain(_) | Line::Keep(_)) => false,
+        (Version::Two, Line::Header) => false,
+        _ => true,
     }
+}
+
+/// Lets go of a line.
+fn let_go(_line: Line) {}
+
+/// The line of a log of the version that the bytes are, with BadLine as `read_line` has it.
+fn read_line_of(alloc: Global, version: Version, bytes: &[u8]) -> Result<Line, LogEnd>
+    ensures { ReadsLine version bytes.now result }
+{
+    let Some((line, _)) = read_numbered(alloc, version, bytes)? else {
+        return Err(LogEnd::BadLine { line: 1 });
+    };
+    if is_of(version, &line) {
+        Ok(line)
+    } else {
+        let_go(line);
+        Err(LogEnd::BadLine { line: 1 })
+    }
+}
+
+/// The line of a log of version 1 that the bytes are, given without the line feed that ends it.
+/// BadLine with the number 1 exactly where they are no line of any. Where a symbol is in it, its
+/// number isn't kept. Fails else only when out of memory.
+pub fn read_line(alloc: Global, bytes: &[u8]) -> Result<Line, LogEnd>
+    ensures { ReadsLine One bytes.now result }
+{
+    read_line_of(alloc, Version::One, bytes)
+}
+
+/// The same of a log of version 2.
+pub fn read_line_2(alloc: Global, bytes: &[u8]) -> Result<Line, LogEnd>
+    ensures { ReadsLine Two bytes.now result }
+{
+    read_line_of(alloc, Version::Two, bytes)
 }

@@ -15,8 +15,8 @@ pub enum LogEnd {
     #[error("a certificate or tree is too deep")]
     TooDeep,
     /// A list is too long, a variable is 1,000,000 or greater, the columns are none or more than
-    /// 15, a rank hasn't as many polynomials as the table, or a postulate has a certificate, so that
-    /// the log has no text.
+    /// 15, a rank hasn't as many polynomials as the table, or a postulate has a certificate in
+    /// version 1, so that the log has no text.
     #[error("a number or a list is out of range")]
     OutOfRange,
     /// There was no memory.

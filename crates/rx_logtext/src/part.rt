@@ -14,7 +14,7 @@ use rx_row::Row;
 use rx_term::Equation;
 use rx_term_words::{read_equation, read_tree};
 use rx_text::{read_poly, read_row, skip_word};
-use rx_words::{read_cert, read_certs, read_number, read_subst};
+use rx_words::{read_cert, read_certs, read_number, read_rows, read_subst};
 use std::alloc::Global;
 
 /// What is in words of a line.
@@ -265,6 +265,25 @@ impl Part for Items<Cert> {
     }
 
     ghost once = { certificate_lists_once };
+}
+
+impl Part for Items<Row> {
+    ghost use Rattle.rx_words.specs.Substitutions as spec;
+    ghost use Rattle.rx_words.proofs.Once.{row_lists_once};
+
+    ghost text = { spec.row_lists.text };
+
+    ghost in_range = { spec.row_lists.in_range };
+
+    fn read_part(
+        alloc: Global,
+        bytes: &[u8],
+        at: usize,
+    ) -> Result<Option<(Items<Row>, usize)>, NoMemory> {
+        read_rows(alloc, bytes, at)
+    }
+
+    ghost once = { row_lists_once };
 }
 
 impl Part for Items<(u32, Poly)> {

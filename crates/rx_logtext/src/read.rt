@@ -1,15 +1,20 @@
 //! Logs, read from their texts.
-ghost use Rattle.std.specs.Prelude.{◌≡◌, OnOk};
-ghost use Rattle.rx_log.specs.Reading.{blank, pushed};
+ghost use Rattle.std.specs.Prelude.{◌≡◌, ◌++◌, ◌∷◌, [], OnOk};
+ghost use Rattle.std.specs.Option.{option_map};
+ghost use Rattle.rx_log.specs.Reading.{blank, pushed, with_domain, with_keep};
+ghost use Rattle.rx_log.specs.declared.line.Line.TheVariants as line;
 ghost use Rattle.rx_logtext.specs.Logs.{ReadsLog};
 ghost use Rattle.rx_logtext.specs.Readers.{pushed_if};
 
 use crate::cutting::text_after;
 use crate::log_end::LogEnd;
 use crate::reader::LogReader;
+use rx_cert::Cert;
+use rx_domain::Domains;
 use rx_log::{Line, Log};
 use rx_pairs::RankTable;
 use rx_plain::{Items, NoMemory};
+use rx_row::Constraint;
 use std::alloc::Global;
 
 /// A log without anything in it, whose ranks would have one column.
@@ -17,6 +22,7 @@ fn blank_log(alloc: Global) -> Log
     ensures { result ≡ blank }
 {
     Log {
+        domains: None,
         covers: Items::new(alloc),
         steps: Items::new(alloc),
         table: RankTable {
@@ -27,28 +33,73 @@ fn blank_log(alloc: Global) -> Log
     }
 }
 
-/// Adds what the line says to the log.
-fn push_into(log: &mut Log, line: Line) -> Result<(), NoMemory>
-    ensures { OnOk result (log.new ≡ pushed line log.old) }
+/// Lets the log have domains, of no symbols so far.
+fn begin_domains(log: &mut Log, alloc: Global)
+    ensures { log.new ≡ pushed line.Header2 log.old }
 {
-    match line {
-        Line::Header => {}
-        Line::Cover(trees) => log.covers.push(trees)?,
-        Line::Step(step) => log.steps.push(step)?,
-        Line::Ranks(columns) => log.table.columns = columns,
-        Line::Rank(rank) => log.table.ranks.push(rank)?,
-        Line::Pair(pair) => log.pairs.push(pair)?,
-        Line::End => {}
+    log.domains = Some(Domains {
+        rows: Items::new(alloc),
+        keeps: Items::new(alloc),
+    });
+}
+
+/// Adds the domain of one symbol more, where there are domains.
+fn push_domain(domains: &mut Option<Domains>, rows: Constraint) -> Result<(), NoMemory>
+    ensures { OnOk result (domains.new ≡ option_map (with_domain rows) domains.old) }
+{
+    match domains {
+        Some(domains) => Ok(domains.rows.push(rows)?),
+        None => Ok(()),
     }
+}
+
+/// Adds the certificates of one part more, where there are domains.
+fn push_keep(domains: &mut Option<Domains>, certs: Items<Cert>) -> Result<(), NoMemory>
+    ensures { OnOk result (domains.new ≡ option_map (with_keep certs) domains.old) }
+{
+    match domains {
+        Some(domains) => Ok(domains.keeps.push(certs)?),
+        None => Ok(()),
+    }
+}
+
+/// Adds one thing to a list.
+fn add<T: Drop>(list: &mut Items<T>, thing: T) -> Result<(), NoMemory>
+    ensures { OnOk result (list.new ≡ list.old ++ thing ∷ []) }
+{
+    list.push(thing)?;
     Ok(())
 }
 
+/// Adds what the line says to the log.
+fn push_into(log: &mut Log, alloc: Global, line: Line) -> Result<(), NoMemory>
+    ensures { OnOk result (log.new ≡ pushed line log.old) }
+{
+    match line {
+        Line::Header | Line::End => Ok(()),
+        Line::Header2 => {
+            begin_domains(log, alloc);
+            Ok(())
+        }
+        Line::Domain(rows) => push_domain(&mut log.domains, rows),
+        Line::Keep(certs) => push_keep(&mut log.domains, certs),
+        Line::Cover(trees) => add(&mut log.covers, trees),
+        Line::Step(step) => add(&mut log.steps, step),
+        Line::Ranks(columns) => {
+            log.table.columns = columns;
+            Ok(())
+        }
+        Line::Rank(rank) => add(&mut log.table.ranks, rank),
+        Line::Pair(pair) => add(&mut log.pairs, pair),
+    }
+}
+
 /// Adds what a line says to the log, if there is one.
-fn push_taken(log: &mut Log, line: Option<Line>) -> Result<(), NoMemory>
+fn push_taken(log: &mut Log, alloc: Global, line: Option<Line>) -> Result<(), NoMemory>
     ensures { OnOk result (log.new ≡ pushed_if line log.old) }
 {
     match line {
-        Some(line) => push_into(log, line),
+        Some(line) => push_into(log, alloc, line),
         None => Ok(()),
     }
 }
@@ -64,7 +115,7 @@ pub fn read_log(alloc: Global, text: &[u8]) -> Result<Log, LogEnd>
     let mut left = text;
     while !left.is_empty() {
         let (count, line) = reader.take(alloc, left)?;
-        push_taken(&mut log, line)?;
+        push_taken(&mut log, alloc, line)?;
         left = text_after(left, count);
     }
     reader.finish()?;

@@ -4,25 +4,27 @@ ghost use Rattle.rx_log.specs.declared.log.Log.{Log};
 ghost use Rattle.rx_log.specs.Reading.{blank};
 ghost use Rattle.rx_logtext.specs.Logs.{up_to_feed};
 ghost use Rattle.rx_logtext.specs.Reading.{ReadsNext};
+ghost use Rattle.rx_logtext.specs.Readers as spec;
 ghost use Rattle.rx_logtext.specs.Readers.{EndsLine, Finishes, IsNext, IsWhole, StandsFor, Takes, count_of, lines_in, place_of};
 
 use crate::cutting::split_line;
 use crate::lines::read_numbered;
 use crate::log_end::LogEnd;
-use rx_log::{Line, LineState};
+use rx_log::{Line, LineState, Version};
 use rx_plain::{Items, NoMemory};
 use std::alloc::Global;
 
-/// The line that the bytes are, where it may come at the place, with the place after it; None
-/// exactly where the bytes are no line that may.
+/// The line that the bytes are in logs of the version, where it may come at the place, with the
+/// place after it; None exactly where the bytes are no line that may.
 fn read_next(
     alloc: Global,
+    version: Version,
     place: LineState,
     bytes: &[u8],
 ) -> Result<Option<(Line, LineState)>, NoMemory>
-    ensures { IfOk result (ReadsNext place bytes.now) }
+    ensures { IfOk result (ReadsNext version place bytes.now) }
 {
-    let Some((line, symbol)) = read_numbered(alloc, bytes)? else {
+    let Some((line, symbol)) = read_numbered(alloc, version, bytes)? else {
         return Ok(None);
     };
     match place.after(&line, symbol) {
@@ -45,24 +47,37 @@ fn extend(line: &mut Items<u8>, alloc: Global, bytes: &[u8]) -> Result<(), NoMem
 /// bytes so far stay as they were.
 fn read_joined(
     alloc: Global,
+    version: Version,
     place: LineState,
     so_far: &mut Items<u8>,
     bytes: &[u8],
 ) -> Result<Option<(Line, LineState)>, NoMemory>
-    ensures read { IfOk result (ReadsNext place (so_far.old ++ bytes.now)) }
+    ensures read { IfOk result (ReadsNext version place (so_far.old ++ bytes.now)) }
     ensures kept { so_far.new ≡ so_far.old }
 {
     let length = so_far.len();
     extend(so_far, alloc, bytes)?;
-    let read = read_next(alloc, place, so_far.as_slice());
+    let read = read_next(alloc, version, place, so_far.as_slice());
     so_far.truncate(length);
     read
 }
 
-/// A log that is read from pieces of its text, wherever that is cut. It keeps the next line as far
-/// as it has come, and nothing else of the text or of the log.
+/// The version of a log after one line more.
+fn version_after(version: Version, line: &Line) -> Version
+    ensures { result ≡ spec.version_after version line.now }
+{
+    match line {
+        Line::Header2 => Version::Two,
+        _ => version,
+    }
+}
+
+/// A log that is read from pieces of its text, wherever that is cut. It keeps the version, and
+/// the next line as far as it has come, and nothing else of the text or of the log.
 #[derive(Drop)]
 pub struct LogReader {
+    // That of the first line, once it was taken.
+    version: Version,
     // Which lines may come next.
     place: LineState,
     // How many lines were taken.
@@ -79,6 +94,7 @@ impl LogReader {
         ensures { StandsFor result blank [] }
     {
         LogReader {
+            version: Version::One,
             place: LineState::AtHeader,
             taken: 0,
             line: Items::new(alloc),
@@ -108,13 +124,14 @@ impl LogReader {
         alloc: Global,
         bytes: &[u8],
     ) -> Result<Option<(Line, LineState)>, NoMemory>
-        ensures read { IfOk result (ReadsNext self.old.place (self.old.line ++ bytes.now)) }
+        ensures read { IfOk result (ReadsNext self.old.version self.old.place
+            (self.old.line ++ bytes.now)) }
         ensures kept { self.new ≡ self.old }
     {
         if self.line.is_empty() {
-            read_next(alloc, self.place, bytes)
+            read_next(alloc, self.version, self.place, bytes)
         } else {
-            read_joined(alloc, self.place, &mut self.line, bytes)
+            read_joined(alloc, self.version, self.place, &mut self.line, bytes)
         }
     }
 
@@ -154,6 +171,7 @@ impl LogReader {
                 line: self.next_number(),
             });
         };
+        self.version = version_after(self.version, &line);
         self.place = place;
         self.taken = self.next_number();
         self.line.truncate(0);

@@ -1,7 +1,9 @@
 //! Steps are written, each as a line without what ends it.
 ghost use Rattle.std.specs.Prelude.{◌≡◌, ◌++◌, ◌∷◌, [], OnOk};
 ghost use Rattle.rx_inference.specs.declared.step.Step.TheVariants as step;
+ghost use Rattle.rx_log.specs.declared.version.Version.TheVariants.{One};
 ghost use Rattle.rx_logtext.specs.Steps.{keep_text, side_text, step_text};
+ghost use Rattle.rx_logwriting.specs.Frames.{new_certs_text};
 ghost use Rattle.rx_text.specs.Numbers.{natural_text};
 ghost use Rattle.rx_words.specs.Certificates.{certificate_lists};
 ghost use Rattle.rx_words.specs.Substitutions.{substitutions};
@@ -9,6 +11,7 @@ ghost use Rattle.rx_words.specs.Words.{spaced};
 
 use rx_cert::Cert;
 use rx_inference::{Delete, Side, Step};
+use rx_log::Version;
 use rx_plain::{Items, NoMemory};
 use rx_poly::Poly;
 use rx_row::{Constraint, Row};
@@ -46,7 +49,7 @@ fn push_simplify(
     out: &mut Vec<u8>,
 ) -> Result<(), NoMemory>
     ensures { OnOk result (out.new.items ≡ out.old.items ++
-        step_text (step.Simplify side rule certs.now)) }
+        step_text One (step.Simplify side rule certs.now)) }
 {
     push_word(out, b"simplify ")?;
     push_side(side, out)?;
@@ -90,7 +93,7 @@ fn push_hyp(
     out: &mut Vec<u8>,
 ) -> Result<(), NoMemory>
     ensures { OnOk result (out.new.items ≡ out.old.items
-        ++ step_text (step.Hyp side place hyp subst.now certs.now)) }
+        ++ step_text One (step.Hyp side place hyp subst.now certs.now)) }
 {
     push_word(out, b"hyp ")?;
     push_side(side, out)?;
@@ -102,7 +105,7 @@ fn push_hyp(
 
 /// A goal is expanded.
 fn push_expand(side: Side, keep: bool, out: &mut Vec<u8>) -> Result<(), NoMemory>
-    ensures { OnOk result (out.new.items ≡ out.old.items ++ step_text (step.Expand side keep)) }
+    ensures { OnOk result (out.new.items ≡ out.old.items ++ step_text One (step.Expand side keep)) }
 {
     push_word(out, b"expand ")?;
     push_side(side, out)?;
@@ -112,7 +115,7 @@ fn push_expand(side: Side, keep: bool, out: &mut Vec<u8>) -> Result<(), NoMemory
 
 /// A goal is deleted.
 fn push_delete(by: &Delete, out: &mut Vec<u8>) -> Result<(), NoMemory>
-    ensures { OnOk result (out.new.items ≡ out.old.items ++ step_text (step.Delete by.now)) }
+    ensures { OnOk result (out.new.items ≡ out.old.items ++ step_text One (step.Delete by.now)) }
 {
     match by {
         Delete::Absurd(cert) => {
@@ -136,7 +139,7 @@ fn push_generalise(
     out: &mut Vec<u8>,
 ) -> Result<(), NoMemory>
     ensures { OnOk result (out.new.items ≡ out.old.items
-        ++ step_text (step.Generalise left.now right.now rows.now subst.now certs.now)) }
+        ++ step_text One (step.Generalise left.now right.now rows.now subst.now certs.now)) }
 {
     push_word(out, b"generalise ")?;
     push_equation(left, right, rows.rows(), out)?;
@@ -144,23 +147,39 @@ fn push_generalise(
     push_instance(subst, certs, out)
 }
 
-/// Another goal is added, by a step without certificates.
+/// Certificates after a space; version 1 has none.
+fn push_new_certs(version: Version, certs: &Items<Cert>, out: &mut Vec<u8>) -> Result<(), NoMemory>
+    ensures { OnOk result (out.new.items ≡ out.old.items ++ new_certs_text version certs.now) }
+{
+    match version {
+        Version::One => Ok(()),
+        Version::Two => {
+            push_word(out, b" ")?;
+            push_certs(certs, out)
+        }
+    }
+}
+
+/// Another goal is added.
 fn push_postulate(
+    version: Version,
     left: &Term,
     right: &Term,
     rows: &Constraint,
+    certs: &Items<Cert>,
     out: &mut Vec<u8>,
 ) -> Result<(), NoMemory>
     ensures { OnOk result (out.new.items ≡ out.old.items
-        ++ step_text (step.Postulate left.now right.now rows.now [])) }
+        ++ step_text version (step.Postulate left.now right.now rows.now certs.now)) }
 {
     push_word(out, b"postulate ")?;
-    push_equation(left, right, rows.rows(), out)
+    push_equation(left, right, rows.rows(), out)?;
+    push_new_certs(version, certs, out)
 }
 
 /// A goal is split by a row.
 fn push_split(row: &Row, out: &mut Vec<u8>) -> Result<(), NoMemory>
-    ensures { OnOk result (out.new.items ≡ out.old.items ++ step_text (step.Split row.now)) }
+    ensures { OnOk result (out.new.items ≡ out.old.items ++ step_text One (step.Split row.now)) }
 {
     push_word(out, b"split ")?;
     push_row(out, row)
@@ -168,7 +187,7 @@ fn push_split(row: &Row, out: &mut Vec<u8>) -> Result<(), NoMemory>
 
 /// Equal frames are taken off.
 fn push_decompose(certs: &Items<Cert>, out: &mut Vec<u8>) -> Result<(), NoMemory>
-    ensures { OnOk result (out.new.items ≡ out.old.items ++ step_text (step.Decompose certs.now)) }
+    ensures { OnOk result (out.new.items ≡ out.old.items ++ step_text One (step.Decompose certs.now)) }
 {
     push_word(out, b"decompose ")?;
     push_certs(certs, out)
@@ -182,7 +201,7 @@ fn push_results(
     out: &mut Vec<u8>,
 ) -> Result<(), NoMemory>
     ensures { OnOk result (out.new.items ≡ out.old.items
-        ++ step_text (step.Results left right certs.now)) }
+        ++ step_text One (step.Results left right certs.now)) }
 {
     push_word(out, b"results ")?;
     push_numbers(left, right, out)?;
@@ -190,9 +209,9 @@ fn push_results(
     push_certs(certs, out)
 }
 
-/// Writes the text of the step after what was written before.
-pub(crate) fn push_step(step: &Step, out: &mut Vec<u8>) -> Result<(), NoMemory>
-    ensures { OnOk result (out.new.items ≡ out.old.items ++ step_text step.now) }
+/// Writes the text of the step in logs of the version after what was written before.
+pub(crate) fn push_step(version: Version, step: &Step, out: &mut Vec<u8>) -> Result<(), NoMemory>
+    ensures { OnOk result (out.new.items ≡ out.old.items ++ step_text version step.now) }
 {
     match step {
         Step::Simplify { side, rule, certs } => push_simplify(*side, *rule, certs, out),
@@ -217,8 +236,8 @@ pub(crate) fn push_step(step: &Step, out: &mut Vec<u8>) -> Result<(), NoMemory>
             left,
             right,
             rows,
-            ..
-        } => push_postulate(left, right, rows, out),
+            certs,
+        } => push_postulate(version, left, right, rows, certs, out),
         Step::Split { row } => push_split(row, out),
         Step::Decompose { certs } => push_decompose(certs, out),
         Step::Results { left, right, certs } => push_results(*left, *right, certs, out),

@@ -7,15 +7,15 @@ use Rattle.rx_io.specs.Outside.{Names, Rose}
 use Rattle.rx_report.specs.declared.ends.Status.{Status}
 use Rattle.rx_report.specs.declared.verdicts.Verdict.{Verdict}
 use Rattle.rx_messages.specs.Asked.{Asked}
-use Rattle.rx_messages.specs.Explaining.{Explains, HasChanged, HasOtherLog, IsRead, IsUnread, name_read}
-use Rattle.rx_messages.specs.Logs.{AreFacts, Facts, longest_log, step_wanted}
+use Rattle.rx_messages.specs.Explaining.{Explains, HasChanged, HasChangedLog, IsRead, IsUnread, name_read}
+use Rattle.rx_messages.specs.Logs.{AreFacts, Facts, longest_log}
 use Rattle.rx_messages.specs.Messages.{message}
 use Rattle.rx_messages.specs.Steps.{FindsFacts, MakesSome}
 use Rattle.rx_messages.specs.declared.logs.Posed.{Posed}
 use Rattle.rx_messages.specs.declared.silences.Silence.{Silence}
 use Rattle.rx_messages.specs.declared.silences.Silence.TheVariants as silence
 
-kept : (bytes : Option (List ℕ)) → Keeps bytes bytes
+pub kept : (bytes : Option (List ℕ)) → Keeps bytes bytes
 kept None = tt
 kept (Some bytes) = refl
 
@@ -37,9 +37,8 @@ no_facts held mid start before now write_fault asked other posed status verdict 
 no_facts held mid start before now write_fault asked other posed status verdict put silence.Changed
     same later is finds = (
       kept put,
-      inr (subst (λ (a : Asked). HasOtherLog held a.log posed (step_wanted verdict)) is
-          (subst (λ (h : Option Names). HasOtherLog h other.log posed (step_wanted verdict)) same
-          finds)),
+      inr (subst (λ (a : Asked). HasChangedLog held a.log posed verdict) is
+          (subst (λ (h : Option Names). HasChangedLog h other.log posed verdict) same finds)),
     )
 no_facts held mid start before now write_fault asked other posed status verdict put silence.Cut same
     later is finds = absurd finds

@@ -1,5 +1,5 @@
 -- What calls on a log say of it for a message.
-use Rattle.std.specs.Prelude.{◌≡◌, ◌≤◌, ℕ, List, Option, Some, Ok, Err}
+use Rattle.std.specs.Prelude.{◌≡◌, ◌≤◌, ℕ, Bool, true, List, Option, Some, Ok, Err}
 use Rattle.std.proofs.Common.{arith, inl, inr, refl, subst, sym}
 use Rattle.rx_io.specs.Outside.{Names, Rose}
 use Rattle.rx_logstate.specs.AtSteps as at
@@ -8,9 +8,9 @@ use Rattle.rx_logstate.specs.declared.look_end.LookEnd.{LookEnd}
 use Rattle.rx_logstate.specs.declared.look_end.LookEnd.TheVariants as look_end
 use Rattle.rx_report.specs.declared.verdicts.Verdict.{Verdict}
 use Rattle.rx_term.specs.declared.rule.Equation.{Equation}
-use Rattle.rx_messages.specs.Explaining.{IsUnread, IsUnreadAs}
-use Rattle.rx_messages.specs.Logs.{IsFound, IsLine, facts_view, line_wanted, longest_log, step_wanted}
-use Rattle.rx_messages.specs.Steps.{FindsFacts, FindsLine, FindsStep, MeansLook}
+use Rattle.rx_messages.specs.Explaining.{HasNoLog, HasOtherLog, IsUnread, IsUnreadAs}
+use Rattle.rx_messages.specs.Logs.{AreFronts, IsFound, IsLine, facts_view, is_before_steps, line_wanted, longest_log, step_wanted}
+use Rattle.rx_messages.specs.Steps.{FindsFacts, FindsFronts, FindsLine, FindsStep, MeansLook}
 use Rattle.rx_messages.specs.declared.logs.Facts as code
 use Rattle.rx_messages.specs.declared.logs.Posed.{Posed}
 use Rattle.rx_messages.specs.declared.silences.Silence.{Silence}
@@ -50,6 +50,21 @@ module _ (held : Option Names) (fault : Type 0) (name : List ℕ) (posed : Posed
       (subst (λ (e : Equation). at.FindsStep held fault name longest_log posed.rules e number
       (Err end)) same finds)
 
+-- ---- the lines before the steps
+
+-- why it isn't known where they begin
+pub fronts_missed : (held : Option Names) (fault : Type 0) (name : List ℕ) (end : LookEnd)
+    (said : Silence) → MeansLook end said →
+    at.FindsFronts held fault name longest_log (Err end) →
+    FindsFronts held fault (Some name) true (Err said)
+fronts_missed held fault name look_end.Unread said means finds =
+    subst (λ (s : Silence). FindsFronts held fault (Some name) true (Err s))
+    (sym means) (name, refl, finds)
+fronts_missed held fault name look_end.NoPlace said means finds =
+    subst (λ (s : Silence). FindsFronts held fault (Some name) true (Err s)) (sym means) finds
+fronts_missed held fault name look_end.NoMemory said means finds =
+    subst (λ (s : Silence). FindsFronts held fault (Some name) true (Err s)) (sym means) tt
+
 -- ---- a fault that is counted from earlier on
 
 rose_before : (start before now : ℕ) → start ≤ before → Rose before now → Rose start now
@@ -80,11 +95,26 @@ no_step held before now name posed verdict wanted silence.NoMemory same finds = 
 no_step held before now name posed verdict wanted silence.Unread same finds =
     λ start later. unread_before held start before now longest_log name later finds
 no_step held before now name posed verdict wanted silence.Changed same finds =
-    subst (λ (o : Option ℕ). FindsStep held (Rose before now) name posed o (Err silence.Changed)) same
-    finds
+    inl (subst (λ (o : Option ℕ). HasOtherLog held name posed o) same finds)
 no_step held before now name posed verdict wanted silence.Cut same finds = absurd finds
 
--- the line couldn't be read, after calls for the step
+-- it couldn't be found where the lines before the steps begin, after calls for the step
+pub no_fronts : (held mid : Option Names) (before between now : ℕ) (name : Option (List ℕ))
+    (posed : Option Posed) (verdict : Option Verdict) (wanted : Bool) (end : Silence) →
+    mid ≡ held → before ≤ between → wanted ≡ is_before_steps verdict →
+    FindsFronts mid (Rose between now) name wanted (Err end) →
+    FindsFacts held before now name posed verdict (Err end)
+no_fronts held mid before between now name posed verdict wanted silence.NoMemory same up is finds = tt
+no_fronts held mid before between now name posed verdict wanted silence.Unread same up is finds =
+    λ start later. unread_before held start between now longest_log name (omega arith)
+    (subst (λ (h : Option Names). IsUnread h (Rose between now) longest_log name) same finds)
+no_fronts held mid before between now name posed verdict wanted silence.Changed same up is finds =
+    inr (subst (λ (b : Bool). HasNoLog held name b) is
+    (subst (λ (h : Option Names). HasNoLog h name wanted) same finds))
+no_fronts held mid before between now name posed verdict wanted silence.Cut same up is finds =
+    absurd finds
+
+-- the line couldn't be read, after other calls
 pub no_line : (held mid : Option Names) (before between now : ℕ) (name : Option (List ℕ))
     (posed : Option Posed) (verdict : Option Verdict) (wanted : Option ℕ) (end : Silence) →
     mid ≡ held → before ≤ between →
@@ -98,23 +128,23 @@ no_line held mid before between now name posed verdict wanted silence.Changed sa
     absurd finds
 no_line held mid before between now name posed verdict wanted silence.Cut same up finds = absurd finds
 
--- both were found
-pub all_found : (held mid : Option Names) (before now : ℕ) (name : Option (List ℕ))
-    (posed : Option Posed) (verdict : Option Verdict) (wanted : Option ℕ)
-    (found : Option AtStep) (facts : code.Facts) → mid ≡ held → wanted ≡ step_wanted verdict →
-    (facts_view facts).posed ≡ posed → facts.found ≡ found →
-    (facts_view facts).number ≡ line_wanted verdict found →
-    IsFound held name posed wanted found → IsLine mid name facts.number facts.line.items →
+-- all was found
+pub all_found : (held mid last : Option Names) (before now : ℕ) (name : Option (List ℕ))
+    (posed : Option Posed) (verdict : Option Verdict) (wanted : Option ℕ) (early : Bool)
+    (facts : code.Facts) → mid ≡ held → last ≡ held → wanted ≡ step_wanted verdict →
+    early ≡ is_before_steps verdict → (facts_view facts).posed ≡ posed →
+    facts.number ≡ line_wanted verdict facts.found facts.fronts →
+    IsFound held name posed wanted facts.found → AreFronts mid name early facts.fronts →
+    IsLine last name facts.number facts.line.items →
     FindsFacts held before now name posed verdict (Ok facts)
-all_found held mid before now name posed verdict wanted found facts same is posed_is found_is number
-    at line = record {
+all_found held mid last before now name posed verdict wanted early facts same same_last is early_is
+    posed_is number at fronts line = record {
       same = posed_is;
-      at =
-          subst (λ (o : Option ℕ). IsFound held name posed o facts.found) is
-          (subst (IsFound held name posed wanted) (sym found_is) at);
-      number =
-          subst (λ (o : Option AtStep). (facts_view facts).number ≡ line_wanted verdict o)
-          (sym found_is) number;
+      at = subst (λ (o : Option ℕ). IsFound held name posed o facts.found) is at;
+      fronts =
+          subst (λ (b : Bool). AreFronts held name b facts.fronts) early_is
+          (subst (λ (h : Option Names). AreFronts h name early facts.fronts) same fronts);
+      number = number;
       line =
-          subst (λ (h : Option Names). IsLine h name facts.number facts.line.items) same line;
+          subst (λ (h : Option Names). IsLine h name facts.number facts.line.items) same_last line;
     }

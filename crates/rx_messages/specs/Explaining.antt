@@ -1,13 +1,13 @@
 -- What the call writes to standard error, and why it may write less.
-use Rattle.std.specs.Prelude.{◌≡◌, ◌⊎◌, ◌≤◌, ℕ, List, [], Option, Some, None, Result, Ok, Err, length, is_none, if◌then◌else◌}
+use Rattle.std.specs.Prelude.{◌≡◌, ◌⊎◌, ◌≤◌, ℕ, Bool, true, false, List, [], Option, Some, None, Result, Ok, Err, length, is_none, if◌then◌else◌}
 use Rattle.std.specs.Io.KnownBytes.{Appends, Keeps}
 use Rattle.rx_io.specs.Outside.{AppendsPrefix, HoldsBytes, HoldsMore, IsMissing, Names}
 use Rattle.rx_report.specs.declared.ends.Status.{Status}
 use Rattle.rx_report.specs.declared.verdicts.Verdict.{Verdict}
 use Rattle.rx_messages.specs.Asked.{Asked, file_of}
 use Rattle.rx_messages.specs.Faults.{is_about_pre, place_of}
-use Rattle.rx_logstate.specs.AtSteps.{HasNoPlace, Stand}
-use Rattle.rx_messages.specs.Logs.{AreFacts, Facts, longest_log, step_wanted}
+use Rattle.rx_logstate.specs.AtSteps.{HasNoPlace, IsNoLog, Stand}
+use Rattle.rx_messages.specs.Logs.{AreFacts, Facts, is_before_steps, longest_log, step_wanted}
 use Rattle.rx_messages.specs.Messages.{message}
 use Rattle.rx_messages.specs.declared.logs.Posed.{Posed}
 use Rattle.rx_messages.specs.declared.silences.Silence.{Silence}
@@ -60,6 +60,20 @@ abbrev pub HasOtherLog : Option Names → Option (List ℕ) → Option Posed →
 HasOtherLog held None posed wanted = ⊥
 HasOtherLog held (Some name) posed wanted = IsOtherAt held name posed wanted
 
+-- where the report is about a line before the steps, what is held in the place of the log is none
+abbrev pub IsNoLogAt : Option Names → List ℕ → Bool → Type 0
+IsNoLogAt held name false = ⊥
+IsNoLogAt held name true = Stand held name IsNoLog
+
+abbrev pub HasNoLog : Option Names → Option (List ℕ) → Bool → Type 0
+HasNoLog held None wanted = ⊥
+HasNoLog held (Some name) wanted = IsNoLogAt held name wanted
+
+-- what is held in the place of the log isn't one that the report can be about
+abbrev pub HasChangedLog : Option Names → Option (List ℕ) → Option Posed → Option Verdict → Type 0
+HasChangedLog held name posed verdict =
+    HasOtherLog held name posed (step_wanted verdict) ⊎ HasNoLog held name (is_before_steps verdict)
+
 -- the message on what is read, which is P
 pub record HasMessage (held : Option Names) (asked : Asked) (posed : Option Posed) (status : Status)
     (verdict : Option Verdict) (P : List ℕ → Type 0)
@@ -86,7 +100,7 @@ pub record HasOtherText (held : Option Names) (asked : Asked) (posed : Option Po
 abbrev pub HasChanged : Option Names → Asked → Option Posed → Status → Option Verdict → Type 0
 HasChanged held asked posed status verdict =
     HasOtherText held asked posed status verdict
-    ⊎ HasOtherLog held asked.log posed (step_wanted verdict)
+    ⊎ HasChangedLog held asked.log posed verdict
 
 -- the whole message is written; or nothing, for a cause; or, where a call on the output found a
 -- fault, a part of the message

@@ -1,5 +1,5 @@
 -- What a message shows of a log: a line of it, and at a step the first goal of the state before.
-use Rattle.std.specs.Prelude.{◌≡◌, ◌+◌, ◌^◌, ℕ, List, [], ◌∷◌, ◌++◌, Option, Some, None, codes, decimal, length, option_map}
+use Rattle.std.specs.Prelude.{◌≡◌, ◌+◌, ◌^◌, ℕ, Bool, true, false, List, [], ◌∷◌, ◌++◌, Option, Some, None, codes, decimal, length, option_map}
 use Rattle.rx_check.specs.declared.check_end.CheckEnd.{CheckEnd}
 use Rattle.rx_check.specs.declared.check_end.CheckEnd.TheVariants as End
 use Rattle.rx_check.specs.declared.check_end.LimitAt.{LimitAt}
@@ -10,7 +10,9 @@ use Rattle.rx_goal_words.specs.RuleTexts.{is_of_symbol, rules_text}
 use Rattle.rx_inference.specs.declared.step.Step.{Step}
 use Rattle.rx_io.specs.Outside.{Names}
 use Rattle.rx_logstate.specs.AtSteps.{IsAtStep, OnLog, Stand}
+use Rattle.rx_logstate.specs.Fronts.{fronts_of}
 use Rattle.rx_logstate.specs.declared.at_step.AtStep.{AtStep}
+use Rattle.rx_logstate.specs.declared.front_lines.Fronts.{Fronts}
 use Rattle.rx_places.specs.Excerpts.{numbered}
 use Rattle.rx_places.specs.LineFronts.{IsLineHeld}
 use Rattle.rx_report.specs.declared.verdicts.Verdict.{Verdict}
@@ -33,11 +35,14 @@ all_steps = 2 ^ 32
 
 -- the step at which the log is looked at
 abbrev pub step_of_limit : LimitAt → Option ℕ
+step_of_limit (At.Keep part) = None
 step_of_limit (At.Cover symbol) = None
 step_of_limit (At.Step step) = Some step
 step_of_limit (At.Pair pair) = Some all_steps
 
 abbrev pub step_of_end : CheckEnd → Option ℕ
+step_of_end (End.BadDomain symbol) = None
+step_of_end (End.NotKept part) = None
 step_of_end (End.Step step end) = Some step
 step_of_end (End.Unfinished goals) = Some all_steps
 step_of_end (End.NotCovered symbol) = None
@@ -72,6 +77,41 @@ abbrev pub IsFound : Option Names → Option (List ℕ) → Option Posed → Opt
 IsFound held None posed wanted found = found ≡ None
 IsFound held (Some name) posed wanted found = IsFoundIn held name posed wanted found
 
+-- ---- the lines before the steps
+
+-- it is about the certificates of a part or the trees of a symbol: where these lines are depends on
+-- how many domains there are
+abbrev pub is_limit_before : LimitAt → Bool
+is_limit_before (At.Keep part) = true
+is_limit_before (At.Cover symbol) = true
+is_limit_before (At.Step step) = false
+is_limit_before (At.Pair pair) = false
+
+abbrev pub is_end_before : CheckEnd → Bool
+is_end_before (End.NotKept part) = true
+is_end_before (End.NotCovered symbol) = true
+is_end_before (End.Large place) = is_limit_before place
+is_end_before end = false
+
+abbrev pub is_before_steps : Option Verdict → Bool
+is_before_steps (Some (Said.Check end)) = is_end_before end
+is_before_steps verdict = false
+
+-- so these lines begin in the log that is held under the name
+abbrev pub AreFrontsFound : Option Names → List ℕ → Option Fronts → Type 0
+AreFrontsFound held name None = ⊥
+AreFrontsFound held name (Some fronts) =
+    Stand held name (λ bytes. OnLog bytes (λ log. fronts ≡ fronts_of log))
+
+abbrev pub AreFrontsFor : Option Names → List ℕ → Bool → Option Fronts → Type 0
+AreFrontsFor held name false fronts = fronts ≡ None
+AreFrontsFor held name true fronts = AreFrontsFound held name fronts
+
+-- the same where there may be no log, or it is no matter
+abbrev pub AreFronts : Option Names → Option (List ℕ) → Bool → Option Fronts → Type 0
+AreFronts held None wanted fronts = fronts ≡ None
+AreFronts held (Some name) wanted fronts = AreFrontsFor held name wanted fronts
+
 -- ---- the line
 
 -- the line of that step
@@ -82,31 +122,42 @@ line_at found = option_map (λ at. at.line) found
 abbrev pub line_past : ℕ → Option AtStep → Option ℕ
 line_past lines found = option_map (λ at. at.line + lines) found
 
+-- the certificates of that part
+abbrev pub keep_line : ℕ → Option Fronts → Option ℕ
+keep_line part fronts = option_map (λ at. at.keeps + part) fronts
+
+-- the trees of that symbol
+abbrev pub cover_line : ℕ → Option Fronts → Option ℕ
+cover_line symbol fronts = option_map (λ at. at.covers + symbol) fronts
+
 -- the pairs come after the line that begins the ranks, and the ranks
 abbrev pub pair_line : ℕ → Option AtStep → Option ℕ
 pair_line pair found = option_map (λ at. at.line + 1 + length at.table.ranks + pair) found
 
-abbrev pub line_of_limit : LimitAt → Option AtStep → Option ℕ
-line_of_limit (At.Cover symbol) found = Some (2 + symbol)
-line_of_limit (At.Step step) found = line_at found
-line_of_limit (At.Pair pair) found = pair_line pair found
+abbrev pub line_of_limit : LimitAt → Option AtStep → Option Fronts → Option ℕ
+line_of_limit (At.Keep part) found fronts = keep_line part fronts
+line_of_limit (At.Cover symbol) found fronts = cover_line symbol fronts
+line_of_limit (At.Step step) found fronts = line_at found
+line_of_limit (At.Pair pair) found fronts = pair_line pair found
 
--- the covers come after the header
-abbrev pub line_of_end : CheckEnd → Option AtStep → Option ℕ
-line_of_end (End.Step step end) found = line_at found
-line_of_end (End.Unfinished goals) found = line_at found
-line_of_end (End.NotCovered symbol) found = Some (2 + symbol)
-line_of_end (End.BadRanks symbol) found = line_past (1 + symbol) found
-line_of_end (End.NotLower pair) found = pair_line pair found
-line_of_end (End.Large place) found = line_of_limit place found
-line_of_end End.NoMemory found = None
+-- the domains come after the header
+abbrev pub line_of_end : CheckEnd → Option AtStep → Option Fronts → Option ℕ
+line_of_end (End.BadDomain symbol) found fronts = Some (2 + symbol)
+line_of_end (End.NotKept part) found fronts = keep_line part fronts
+line_of_end (End.Step step end) found fronts = line_at found
+line_of_end (End.Unfinished goals) found fronts = line_at found
+line_of_end (End.NotCovered symbol) found fronts = cover_line symbol fronts
+line_of_end (End.BadRanks symbol) found fronts = line_past (1 + symbol) found
+line_of_end (End.NotLower pair) found fronts = pair_line pair found
+line_of_end (End.Large place) found fronts = line_of_limit place found fronts
+line_of_end End.NoMemory found fronts = None
 
 -- the line of the log that a report is about
-abbrev pub line_wanted : Option Verdict → Option AtStep → Option ℕ
-line_wanted None found = None
-line_wanted (Some (Said.Line number)) found = Some number
-line_wanted (Some (Said.Check end)) found = line_of_end end found
-line_wanted (Some verdict) found = None
+abbrev pub line_wanted : Option Verdict → Option AtStep → Option Fronts → Option ℕ
+line_wanted None found fronts = None
+line_wanted (Some (Said.Line number)) found fronts = Some number
+line_wanted (Some (Said.Check end)) found fronts = line_of_end end found fronts
+line_wanted (Some verdict) found fronts = None
 
 abbrev pub IsLineIn : Option Names → List ℕ → Option ℕ → List ℕ → Type 0
 IsLineIn held name None line = line ≡ []
@@ -123,6 +174,7 @@ IsLine held (Some name) wanted line = IsLineIn held name wanted line
 pub record Facts : Type 0 where
   pub posed : Option Posed
   pub found : Option AtStep
+  pub fronts : Option Fronts
   pub number : Option ℕ
   pub line : List ℕ
 
@@ -132,7 +184,8 @@ pub record AreFacts (held : Option Names) (name : Option (List ℕ)) (posed : Op
     : Type 0 where
   pub same : facts.posed ≡ posed
   pub at : IsFound held name posed (step_wanted verdict) facts.found
-  pub number : facts.number ≡ line_wanted verdict facts.found
+  pub fronts : AreFronts held name (is_before_steps verdict) facts.fronts
+  pub number : facts.number ≡ line_wanted verdict facts.found facts.fronts
   pub line : IsLine held name facts.number facts.line
 
 -- ---- what is shown
@@ -174,11 +227,14 @@ symbol_text parts symbol =
     ++ rules_text (is_of_symbol symbol) 0 parts.rules))
 
 abbrev pub limit_text : RuleParts → LimitAt → Option AtStep → List ℕ
+limit_text parts (At.Keep part) found = []
 limit_text parts (At.Cover symbol) found = symbol_text parts symbol
 limit_text parts (At.Step step) found = goal_text parts found
 limit_text parts (At.Pair pair) found = []
 
 abbrev pub end_text : RuleParts → CheckEnd → Option AtStep → List ℕ
+end_text parts (End.BadDomain symbol) found = symbol_text parts symbol
+end_text parts (End.NotKept part) found = []
 end_text parts (End.Step step end) found = step_text parts end found
 end_text parts (End.Unfinished goals) found = goal_text parts found
 end_text parts (End.NotCovered symbol) found = symbol_text parts symbol
@@ -205,6 +261,7 @@ abbrev pub facts_view : code.Facts → Facts
 facts_view facts = record {
   posed = option_map (λ posed. posed.now) facts.posed;
   found = facts.found;
+  fronts = facts.fronts;
   number = facts.number;
   line = facts.line.items;
 }

@@ -20,6 +20,10 @@ words_of_step Unmet.Large = []
 words_of_step Unmet.NoMemory = []
 
 abbrev pub words_of_check : CheckEnd → List ℕ
+words_of_check (End.BadDomain symbol) =
+    codes "a symbol has no domain over its own arguments, or there are more domains than symbols"
+words_of_check (End.NotKept part) =
+    codes "the goal (0) or a rule (counted from 1) isn't shown to stay inside the domains"
 words_of_check (End.Step step end) = words_of_step end
 words_of_check (End.Unfinished goals) = codes "goals are left after the last step"
 words_of_check (End.NotCovered symbol) =
@@ -80,6 +84,10 @@ words_of Said.LargeRules = codes "the rules of the functions pass the limits of 
 
 -- the log that isn't accepted may be mended
 abbrev pub tries_after_check : CheckEnd → Option (List ℕ)
+tries_after_check (End.BadDomain symbol) =
+    Some (codes "docs/LOG-FORMAT.md, which says what each line is")
+tries_after_check (End.NotKept part) =
+    Some (codes "other domains; the --pre of the proof, if it was left out")
 tries_after_check (End.Step step end) = Some (codes "docs/STEPS.md, which says what each step asks")
 tries_after_check (End.Unfinished goals) = Some (codes "more steps")
 tries_after_check (End.NotCovered symbol) =

@@ -1,16 +1,17 @@
 -- What the functions inside promise to one another. Nothing that a caller reads depends on this.
-use Rattle.std.specs.Prelude.{◌≡◌, ◌≤◌, ℕ, List, Option, Some, None, Vec, option_map, Result, Ok, Err, ⊤}
+use Rattle.std.specs.Prelude.{◌≡◌, ◌≤◌, ℕ, Bool, List, Option, Some, None, Vec, option_map, Result, Ok, Err, ⊤}
 use Rattle.std.specs.Borrow.{Bor}
 use Rattle.std.specs.declared.alloc.Global.{Global}
 use Rattle.rx_io.specs.Outside.{Names, Rose}
 use Rattle.rx_logstate.specs.declared.at_step.AtStep.{AtStep}
+use Rattle.rx_logstate.specs.declared.front_lines.Fronts.{Fronts}
 use Rattle.rx_logstate.specs.declared.look_end.LookEnd.{LookEnd}
 use Rattle.rx_logstate.specs.declared.look_end.LookEnd.TheVariants as look_end
 use Rattle.rx_report.specs.declared.verdicts.Verdict.{Verdict}
 use Rattle.rx_io.specs.declared.reading.ReadEnd.{ReadEnd}
 use Rattle.rx_io.specs.declared.reading.ReadEnd.TheVariants as read_end
-use Rattle.rx_messages.specs.Explaining.{HasOtherLog, IsRead, IsUnread, longest_source}
-use Rattle.rx_messages.specs.Logs.{AreFacts, IsFound, IsLine, facts_view, longest_log, step_wanted}
+use Rattle.rx_messages.specs.Explaining.{HasChangedLog, HasNoLog, HasOtherLog, IsRead, IsUnread, longest_source}
+use Rattle.rx_messages.specs.Logs.{AreFacts, AreFronts, IsFound, IsLine, facts_view, longest_log}
 use Rattle.rx_messages.specs.declared.logs.Facts as code
 use Rattle.rx_messages.specs.declared.logs.Posed.{Posed}
 use Rattle.rx_messages.specs.declared.silences.Silence.{Silence}
@@ -51,6 +52,16 @@ FindsStep held read_fault name posed wanted (Err silence.Changed) =
     HasOtherLog held name posed wanted
 FindsStep held read_fault name posed wanted (Err silence.Cut) = ⊥
 
+-- where the lines before the steps begin in the log with this name, or why that isn't known
+abbrev pub FindsFronts : Option Names → Type 0 → Option (List ℕ) → Bool →
+    Result (Option Fronts) Silence → Type 0
+FindsFronts held read_fault name wanted (Ok fronts) = AreFronts held name wanted fronts
+FindsFronts held read_fault name wanted (Err silence.NoMemory) = ⊤
+FindsFronts held read_fault name wanted (Err silence.Unread) =
+    IsUnread held read_fault longest_log name
+FindsFronts held read_fault name wanted (Err silence.Changed) = HasNoLog held name wanted
+FindsFronts held read_fault name wanted (Err silence.Cut) = ⊥
+
 -- the first bytes of the line, or why there are none
 abbrev pub FindsLine : Option Names → Type 0 → Option (List ℕ) → Option ℕ →
     Result (Vec ℕ Global) Silence → Type 0
@@ -61,7 +72,7 @@ FindsLine held read_fault name wanted (Err silence.Unread) =
 FindsLine held read_fault name wanted (Err silence.Changed) = ⊥
 FindsLine held read_fault name wanted (Err silence.Cut) = ⊥
 
--- both, by calls that leave the count of faults between the two numbers
+-- all of it, by calls that leave the count of faults between the two numbers
 abbrev pub FindsFacts : Option Names → ℕ → ℕ → Option (List ℕ) → Option Posed → Option Verdict →
     Result code.Facts Silence → Type 0
 FindsFacts held before now name posed verdict (Ok facts) =
@@ -70,7 +81,7 @@ FindsFacts held before now name posed verdict (Err silence.NoMemory) = ⊤
 FindsFacts held before now name posed verdict (Err silence.Unread) =
     (start : ℕ) → start ≤ before → IsUnread held (Rose start now) longest_log name
 FindsFacts held before now name posed verdict (Err silence.Changed) =
-    HasOtherLog held name posed (step_wanted verdict)
+    HasChangedLog held name posed verdict
 FindsFacts held before now name posed verdict (Err silence.Cut) = ⊥
 
 -- what a fault of a look at a log means for a message

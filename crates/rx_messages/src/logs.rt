@@ -1,17 +1,17 @@
 //! What a message shows of a log.
-ghost use Rattle.std.specs.Prelude.{◌≡◌, ◌≤◌, ◌+◌, ◌++◌, Some, IfOk, OnOk};
+ghost use Rattle.std.specs.Prelude.{◌≡◌, ◌≤◌, ◌+◌, ◌++◌, Some, true, IfOk, OnOk};
 ghost use Rattle.std.specs.Option.{option_copied};
 ghost use Rattle.rx_command.specs.Commands.{bytes_of};
 ghost use Rattle.rx_io.specs.Outside.{Rose};
 ghost use Rattle.rx_messages.specs.Logs as spec;
 ghost use Rattle.rx_messages.specs.Logs.{AreFacts, facts_view};
-ghost use Rattle.rx_messages.specs.Steps.{FindsFacts, FindsLine, FindsStep};
+ghost use Rattle.rx_messages.specs.Steps.{FindsFacts, FindsFronts, FindsLine, FindsStep};
 
 use crate::silences::{Silence, silence_of, silence_of_look};
 use rx_check::{CheckEnd, LimitAt};
 use rx_goal_words::{push_condition, push_rules_of, push_state};
 use rx_io::Files;
-use rx_logstate::{AtStep, step_in_file};
+use rx_logstate::{AtStep, Fronts, fronts_in_file, step_in_file};
 use rx_places::{NoMemory, line_in_file, push_number, push_numbered_line, push_word};
 use rx_report::Verdict;
 use rx_steps::StepEnd;
@@ -34,6 +34,8 @@ pub(crate) struct Facts<'a> {
     pub posed: Option<&'a Posed>,
     /// The state at the step that the report is about.
     pub found: Option<AtStep>,
+    /// Where the lines before the steps begin, where the report is about one of them.
+    pub fronts: Option<Fronts>,
     /// The number of the line that it is about, counted from 1.
     pub number: Option<usize>,
     /// The first bytes of that line.
@@ -55,7 +57,7 @@ fn step_of_limit(place: LimitAt) -> Option<usize>
     ensures { result ≡ spec.step_of_limit place }
 {
     match place {
-        LimitAt::Cover(_) => None,
+        LimitAt::Keep(_) | LimitAt::Cover(_) => None,
         LimitAt::Step(step) => Some(step),
         LimitAt::Pair(_) => Some(ALL_STEPS),
     }
@@ -65,6 +67,7 @@ fn step_of_end(end: CheckEnd) -> Option<usize>
     ensures { result ≡ spec.step_of_end end }
 {
     match end {
+        CheckEnd::BadDomain { sym: _ } | CheckEnd::NotKept { part: _ } => None,
         CheckEnd::Step { step, end: _ } => Some(step),
         CheckEnd::Unfinished { goals: _ } => Some(ALL_STEPS),
         CheckEnd::NotCovered { sym: _ } => None,
@@ -135,6 +138,79 @@ fn read_step<F: Files>(
     step_found(alloc, files, name, posed, number)
 }
 
+// ---- the lines before the steps
+
+fn is_limit_before(place: LimitAt) -> bool
+    ensures { result ≡ spec.is_limit_before place }
+{
+    match place {
+        LimitAt::Keep(_) | LimitAt::Cover(_) => true,
+        LimitAt::Step(_) | LimitAt::Pair(_) => false,
+    }
+}
+
+fn is_end_before(end: CheckEnd) -> bool
+    ensures { result ≡ spec.is_end_before end }
+{
+    match end {
+        CheckEnd::NotKept { part: _ } | CheckEnd::NotCovered { sym: _ } => true,
+        CheckEnd::Large { place } => is_limit_before(place),
+        _ => false,
+    }
+}
+
+/// Whether it is about a line whose place depends on how many domains there are.
+fn is_before_steps(verdict: &Option<Verdict>) -> bool
+    ensures { result ≡ spec.is_before_steps verdict.now }
+{
+    match verdict {
+        Some(Verdict::Check(end)) => is_end_before(*end),
+        Some(_) => false,
+        None => false,
+    }
+}
+
+/// Where the lines before the steps of the log begin.
+fn fronts_found<F: Files>(
+    alloc: Global,
+    files: &mut F,
+    name: &str,
+) -> Result<Option<Fronts>, Silence>
+    ensures reach { F.reaches files.old files.new }
+    ensures held { F.held files.new ≡ F.held files.old }
+    ensures later { F.faults files.old ≤ F.faults files.new }
+    ensures finds { FindsFronts (F.held files.old) (Rose (F.faults files.old) (F.faults files.new))
+        (Some name.now) true result }
+{
+    match fronts_in_file(alloc, files, name, LONGEST_LOG) {
+        Ok(fronts) => Ok(Some(fronts)),
+        Err(end) => Err(silence_of_look(end)),
+    }
+}
+
+/// The same where there may be no log, or it is no matter.
+fn read_fronts<F: Files>(
+    alloc: Global,
+    files: &mut F,
+    name: Option<&str>,
+    wanted: bool,
+) -> Result<Option<Fronts>, Silence>
+    ensures reach { F.reaches files.old files.new }
+    ensures held { F.held files.new ≡ F.held files.old }
+    ensures later { F.faults files.old ≤ F.faults files.new }
+    ensures finds { FindsFronts (F.held files.old) (Rose (F.faults files.old) (F.faults files.new))
+        (bytes_of name.entry) wanted result }
+{
+    let Some(name) = name else {
+        return Ok(None);
+    };
+    if wanted {
+        fronts_found(alloc, files, name)
+    } else {
+        Ok(None)
+    }
+}
+
 // ---- the line
 
 /// So many lines after this one; NoMemory where there is no such number.
@@ -147,11 +223,31 @@ fn lines_after(line: usize, lines: usize) -> Result<usize, NoMemory>
     }
 }
 
-/// The line of the trees of a symbol.
-fn cover_line(symbol: usize) -> Result<Option<usize>, NoMemory>
+/// The line of the domain of a symbol.
+fn domain_line(symbol: usize) -> Result<Option<usize>, NoMemory>
     ensures { IfOk result (λ number. number ≡ Some (2 + symbol)) }
 {
     Ok(Some(lines_after(2, symbol)?))
+}
+
+/// The line of the certificates of a part.
+fn keep_line(part: usize, fronts: Option<Fronts>) -> Result<Option<usize>, NoMemory>
+    ensures { IfOk result (λ number. number ≡ spec.keep_line part fronts) }
+{
+    match fronts {
+        Some(at) => Ok(Some(lines_after(at.keeps, part)?)),
+        None => Ok(None),
+    }
+}
+
+/// The line of the trees of a symbol.
+fn cover_line(symbol: usize, fronts: Option<Fronts>) -> Result<Option<usize>, NoMemory>
+    ensures { IfOk result (λ number. number ≡ spec.cover_line symbol fronts) }
+{
+    match fronts {
+        Some(at) => Ok(Some(lines_after(at.covers, symbol)?)),
+        None => Ok(None),
+    }
 }
 
 /// The line of the step.
@@ -191,37 +287,52 @@ fn pair_line(pair: usize, found: &Option<AtStep>) -> Result<Option<usize>, NoMem
     }
 }
 
-fn line_of_limit(place: LimitAt, found: &Option<AtStep>) -> Result<Option<usize>, NoMemory>
-    ensures { IfOk result (λ number. number ≡ spec.line_of_limit place found.now) }
+fn line_of_limit(
+    place: LimitAt,
+    found: &Option<AtStep>,
+    fronts: Option<Fronts>,
+) -> Result<Option<usize>, NoMemory>
+    ensures { IfOk result (λ number. number ≡ spec.line_of_limit place found.now fronts) }
 {
     match place {
-        LimitAt::Cover(symbol) => cover_line(symbol),
+        LimitAt::Keep(part) => keep_line(part, fronts),
+        LimitAt::Cover(symbol) => cover_line(symbol, fronts),
         LimitAt::Step(_) => Ok(line_at(found)),
         LimitAt::Pair(pair) => pair_line(pair, found),
     }
 }
 
-fn line_of_end(end: CheckEnd, found: &Option<AtStep>) -> Result<Option<usize>, NoMemory>
-    ensures { IfOk result (λ number. number ≡ spec.line_of_end end found.now) }
+fn line_of_end(
+    end: CheckEnd,
+    found: &Option<AtStep>,
+    fronts: Option<Fronts>,
+) -> Result<Option<usize>, NoMemory>
+    ensures { IfOk result (λ number. number ≡ spec.line_of_end end found.now fronts) }
 {
     match end {
+        CheckEnd::BadDomain { sym } => domain_line(sym),
+        CheckEnd::NotKept { part } => keep_line(part, fronts),
         CheckEnd::Step { step: _, end: _ } => Ok(line_at(found)),
         CheckEnd::Unfinished { goals: _ } => Ok(line_at(found)),
-        CheckEnd::NotCovered { sym } => cover_line(sym),
+        CheckEnd::NotCovered { sym } => cover_line(sym, fronts),
         CheckEnd::BadRanks { sym } => rank_line(sym, found),
         CheckEnd::NotLower { pair } => pair_line(pair, found),
-        CheckEnd::Large { place } => line_of_limit(place, found),
+        CheckEnd::Large { place } => line_of_limit(place, found, fronts),
         CheckEnd::NoMemory => Ok(None),
     }
 }
 
 /// The number of the line of the log that a report is about.
-fn line_wanted(verdict: &Option<Verdict>, found: &Option<AtStep>) -> Result<Option<usize>, NoMemory>
-    ensures { IfOk result (λ number. number ≡ spec.line_wanted verdict.now found.now) }
+fn line_wanted(
+    verdict: &Option<Verdict>,
+    found: &Option<AtStep>,
+    fronts: Option<Fronts>,
+) -> Result<Option<usize>, NoMemory>
+    ensures { IfOk result (λ number. number ≡ spec.line_wanted verdict.now found.now fronts) }
 {
     match verdict {
         Some(Verdict::Line(number)) => Ok(Some(*number)),
-        Some(Verdict::Check(end)) => line_of_end(*end, found),
+        Some(Verdict::Check(end)) => line_of_end(*end, found, fronts),
         Some(_) => Ok(None),
         None => Ok(None),
     }
@@ -267,11 +378,13 @@ pub(crate) fn facts_of<'a, F: Files>(
         (bytes_of name.entry) (option_copied posed.entry) verdict.now result }
 {
     let found = read_step(alloc, files, name, posed, step_wanted(verdict))?;
-    let number = line_wanted(verdict, &found)?;
+    let fronts = read_fronts(alloc, files, name, is_before_steps(verdict))?;
+    let number = line_wanted(verdict, &found, fronts)?;
     let line = read_line(alloc, files, name, number)?;
     Ok(Facts {
         posed,
         found,
+        fronts,
         number,
         line,
     })
@@ -386,6 +499,7 @@ fn push_limit_text(
         ≡ out.old.items ++ spec.limit_text rules.now place found.now) }
 {
     match place {
+        LimitAt::Keep(_) => Ok(()),
         LimitAt::Cover(symbol) => push_symbol_text(out, rules, symbol),
         LimitAt::Step(_) => push_goal_text(out, rules, found),
         LimitAt::Pair(_) => Ok(()),
@@ -402,6 +516,8 @@ fn push_end_text(
     ensures { OnOk result (out.new.items ≡ out.old.items ++ spec.end_text rules.now end found.now) }
 {
     match end {
+        CheckEnd::BadDomain { sym } => push_symbol_text(out, rules, sym),
+        CheckEnd::NotKept { part: _ } => Ok(()),
         CheckEnd::Step { step: _, end } => push_step_text(alloc, out, rules, end, found),
         CheckEnd::Unfinished { goals: _ } => push_goal_text(out, rules, found),
         CheckEnd::NotCovered { sym } | CheckEnd::BadRanks { sym } => {

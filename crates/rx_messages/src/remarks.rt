@@ -25,6 +25,12 @@ fn words_of_check(end: CheckEnd) -> &'static [u8]
     ensures { result.now ≡ spec.words_of_check end }
 {
     match end {
+        CheckEnd::BadDomain { .. } => {
+            b"a symbol has no domain over its own arguments, or there are more domains than symbols"
+        }
+        CheckEnd::NotKept { .. } => {
+            b"the goal (0) or a rule (counted from 1) isn't shown to stay inside the domains"
+        }
         CheckEnd::Step { step: _, end } => words_of_step(end),
         CheckEnd::Unfinished { .. } => b"goals are left after the last step",
         CheckEnd::NotCovered { .. } => {
@@ -101,6 +107,10 @@ fn tries_after_check(end: CheckEnd) -> Option<&'static [u8]>
     ensures { bytes_in result ≡ spec.tries_after_check end }
 {
     match end {
+        CheckEnd::BadDomain { .. } => { Some(b"docs/LOG-FORMAT.md, which says what each line is") }
+        CheckEnd::NotKept { .. } => {
+            Some(b"other domains; the --pre of the proof, if it was left out")
+        }
         CheckEnd::Step { .. } => Some(b"docs/STEPS.md, which says what each step asks"),
         CheckEnd::Unfinished { .. } => Some(b"more steps"),
         CheckEnd::NotCovered { .. } => {

@@ -104,12 +104,15 @@ unmet_line step Unmet.NoMemory = []
 
 -- the line of a place that passes the limits
 abbrev pub large_line : LimitAt → List ℕ
+large_line (At.Keep part) = numbered_line (codes "LARGE keep ") part
 large_line (At.Cover symbol) = numbered_line (codes "LARGE cover s") symbol
 large_line (At.Step step) = numbered_line (codes "LARGE step ") step
 large_line (At.Pair pair) = numbered_line (codes "LARGE pair ") pair
 
 -- the line of a log that isn't accepted; running out of memory has none
 abbrev pub check_line : CheckEnd → List ℕ
+check_line (End.BadDomain symbol) = numbered_line (codes "REFUSED domain s") symbol
+check_line (End.NotKept part) = numbered_line (codes "REFUSED keep ") part
 check_line (End.Step step end) = unmet_line step end
 check_line (End.Unfinished goals) = numbered_line (codes "REFUSED unfinished ") goals
 check_line (End.NotCovered symbol) = numbered_line (codes "REFUSED cover s") symbol

@@ -35,12 +35,15 @@ step_end_of judging.Large = Unmet.Large
 
 -- where something passes the limits
 abbrev pub place_of : acceptance.LimitAt → limit.LimitAt
+place_of (acceptance.AtKeep part) = At.Keep part
 place_of (acceptance.AtCover symbol) = At.Cover symbol
 place_of (acceptance.AtStep step) = At.Step step
 place_of (acceptance.AtPair pair) = At.Pair pair
 
 -- the first fault of a log
 abbrev pub end_of : LogFault → CheckEnd
+end_of (acceptance.BadDomain symbol) = End.BadDomain symbol
+end_of (acceptance.NotKept part) = End.NotKept part
 end_of (acceptance.NotCovered symbol) = End.NotCovered symbol
 end_of (acceptance.Refused step fault) = End.Step step (step_end_of fault)
 end_of (acceptance.Unfinished goals) = End.Unfinished goals

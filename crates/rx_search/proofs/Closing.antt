@@ -1,5 +1,5 @@
 -- At a node that is closed no goal is left; and its log is accepted.
-use Rattle.std.proofs.Common.{◌≡◌, ℕ, Ok, List, [], ◌++◌, map, refl, sym, ap, subst, ◌∙◌}
+use Rattle.std.proofs.Common.{◌≡◌, ℕ, Option, None, Ok, List, [], ◌++◌, map, refl, sym, ap, subst, ◌∙◌}
 use Rattle.std.proofs.lemmas.List.Elements.{All-append}
 use Rattle.rx_row.specs.declared.row.Row.{Row}
 use Rattle.rx_term.specs.declared.rule.Equation.{Equation}
@@ -8,6 +8,7 @@ use Rattle.rx_term.specs.declared.rule_set.RuleParts.{RuleParts}
 use Rattle.rx_inference.specs.States.{State}
 use Rattle.rx_inference.specs.declared.step.Step.{Step}
 use Rattle.rx_cover.specs.Covering.{Covers, covering}
+use Rattle.rx_domain.specs.declared.domains.Domains.{Domains}
 use Rattle.rx_pairs.specs.Inside.{descends_in, descent_in}
 use Rattle.rx_pairs.specs.Listed.{pairs_by_all}
 use Rattle.rx_pairs.specs.Lowering.{Descends}
@@ -19,7 +20,7 @@ use Rattle.rx_pairs.proofs.ListedLaws.{all_listed}
 use Rattle.rx_pairs.proofs.PairsLaws.{made_roots}
 use Rattle.rx_find_ranks.specs.Found.{LowersAll}
 use Rattle.rx_find_ranks.specs.declared.ranking.Ranking.{Ranking}
-use Rattle.rx_log.specs.Acceptance.{Checked, IsAccepted, ◌>>=◌, after_steps, concluded, kept, kept_by, of_descent, once_covered, once_ranked}
+use Rattle.rx_log.specs.Acceptance.{Checked, IsAccepted, ◌>>=◌, after_steps, concluded, kept_by, kept_over, of_descent, once_covered, once_inside, once_ranked, used}
 use Rattle.rx_log.specs.Acceptance as acceptance
 use Rattle.rx_log.specs.declared.log.Log.{Log}
 use Rattle.rx_moves.specs.Moves.{move_of}
@@ -93,11 +94,11 @@ node_proved parts goal node steps hypotheses is closed same kept =
 
 module _ (parts : RuleParts) (none : parts.domains ≡ []) (goal : Equation) (made : List Step)
     (hypotheses : List Rule) (log : Log) (ranking : Ranking)
-    (is : IsProved parts goal made hypotheses)
+    (is : IsProved parts goal made hypotheses) (without : log.domains ≡ None)
     (covers : covering parts log.covers ≡ Covers) (steps : log.steps ≡ made)
     (table : log.table ≡ ranking.table)
     (certs : log.pairs ≡ ranking.certs) (lowers : LowersAll parts hypotheses ranking) where
-  keeps : kept parts goal log ≡ Ok hypotheses
+  keeps : kept_over parts goal log ≡ Ok hypotheses
   keeps =
       ap (λ found. once_covered found (after_steps parts 0 (acceptance.start goal) log.steps >>=
       kept_by parts log.table)) covers
@@ -125,4 +126,7 @@ module _ (parts : RuleParts) (none : parts.domains ≡ []) (goal : Equation) (ma
   -- the log of a proof is accepted
   pub accepted : IsAccepted parts goal log
   accepted =
-      ap (concluded parts log) keeps ∙ ap of_descent descends
+      ap (λ (d : Option Domains). concluded (used parts d) log
+      (once_inside parts goal d (kept_over (used parts d) goal log))) without
+      ∙ ap (concluded parts log) keeps
+      ∙ ap of_descent descends

@@ -1,5 +1,5 @@
 -- Of a log that is found no certificate and no tree is deeper than 200.
-use Rattle.std.proofs.Common.{◌≡◌, ◌≤◌, Bool, true, ◌&&◌, List, [], ◌∷◌, refl, sym, ap, subst, ◌∙◌, arith, All}
+use Rattle.std.proofs.Common.{◌≡◌, ◌≤◌, Bool, true, ◌&&◌, List, [], ◌∷◌, None, Option, refl, sym, ap, subst, ◌∙◌, arith, All}
 use Rattle.std.specs.Prelude.{nat_le}
 use Rattle.std.specs.List.{list_all}
 use Rattle.std.proofs.lemmas.Bool.{and_from, and_parts}
@@ -12,10 +12,11 @@ use Rattle.rx_inference.specs.Judging.{certificates}
 use Rattle.rx_inference.specs.declared.step.Step.{Step}
 use Rattle.rx_cover.specs.Depth.{tree_depth}
 use Rattle.rx_cover.specs.declared.cover_tree.CoverTree.{CoverTree, CoverTree-F, fold-roll-CoverTree, ind-CoverTree, map-CoverTree, roll-CoverTree}
+use Rattle.rx_domain.specs.declared.domains.Domains.{Domains}
 use Rattle.rx_find_cover.specs.Answers.{AreSmall, domain_rows}
 use Rattle.rx_find_cover.specs.Trees.{IsSmall, is_cert_deep, passes_level, tree_passes}
 use Rattle.rx_pairs.specs.declared.pair_cert.PairCert.{PairCert}
-use Rattle.rx_log.specs.Depth.{are_shallow, certs_level, deepest, has_shallow_certs, is_shallow, is_shallow_log, is_shallow_tree}
+use Rattle.rx_log.specs.Depth.{are_shallow, are_shallow_keeps, certs_level, deepest, has_shallow_certs, is_shallow, is_shallow_log, is_shallow_tree}
 use Rattle.rx_log.specs.declared.log.Log.{Log}
 use Rattle.rx_settle.specs.Answers.{AreDeep}
 use Rattle.rx_settle.proofs.ReachedLaws.{IsDeep}
@@ -103,25 +104,31 @@ module _ (parts : RuleParts) where
 
   -- ---- logs
 
+  -- a log without domains, by its parts
+  shallow_parts : (domains : Option Domains) (covers steps pairs : Bool) → domains ≡ None →
+      covers ≡ true → steps ≡ true → pairs ≡ true
+      → are_shallow_keeps domains && (covers && (steps && pairs)) ≡ true
+  shallow_parts domains covers steps pairs none one two three =
+      and_from (are_shallow_keeps domains) (covers && (steps && pairs)) (ap are_shallow_keeps none)
+      (and_from covers (steps && pairs) one (and_from steps pairs two three))
+
   pub log_shallow : (log : Log) (covers : List (List CoverTree)) (steps : List Step)
       (pairs : List PairCert)
-      → log.covers ≡ covers → log.steps ≡ steps → log.pairs ≡ pairs → All (AreSmall parts) covers →
-      AreDeep steps
+      → log.domains ≡ None → log.covers ≡ covers → log.steps ≡ steps → log.pairs ≡ pairs →
+      All (AreSmall parts) covers → AreDeep steps
       → All (λ (c : PairCert). All (λ (cert : Cert). cert_depth cert ≤ most_deep) c.certs) pairs →
       is_shallow_log log ≡ true
-  log_shallow log covers steps pairs same_covers same_steps same_pairs small deep deep_pairs =
-      and_from (list_all (λ trees. list_all is_shallow_tree trees) log.covers)
-      (list_all (λ (step : Step). are_shallow (certificates step)) log.steps &&
-      list_all (λ (pair : PairCert). are_shallow pair.certs) log.pairs)
+  log_shallow log covers steps pairs none same_covers same_steps same_pairs small deep deep_pairs =
+      shallow_parts log.domains (list_all (λ trees. list_all is_shallow_tree trees) log.covers)
+      (list_all (λ (step : Step). are_shallow (certificates step)) log.steps)
+      (list_all (λ (pair : PairCert). are_shallow pair.certs) log.pairs) none
       (ap (list_all (λ trees. list_all is_shallow_tree trees)) same_covers
       ∙ all_pass (AreSmall parts) (λ trees. list_all is_shallow_tree trees) trees_shallow covers
       small)
-      (and_from (list_all (λ (step : Step). are_shallow (certificates step)) log.steps)
-      (list_all (λ (pair : PairCert). are_shallow pair.certs) log.pairs)
       (ap (list_all (λ (step : Step). are_shallow (certificates step))) same_steps
       ∙ all_pass IsDeep (λ (step : Step). are_shallow (certificates step))
       (λ step. certs_shallow (certificates step)) steps deep)
       (ap (list_all (λ (pair : PairCert). are_shallow pair.certs)) same_pairs
       ∙ all_pass (λ (c : PairCert). All (λ (cert : Cert). cert_depth cert ≤ most_deep) c.certs)
       (λ (pair : PairCert). are_shallow pair.certs)
-      (λ pair. certs_shallow pair.certs) pairs deep_pairs))
+      (λ pair. certs_shallow pair.certs) pairs deep_pairs)

@@ -1,5 +1,5 @@
 //! The search.
-ghost use Rattle.std.specs.Prelude.{◌≡◌, ◌≤◌, [], ℕ, All, IfErr, IfOk, map, true};
+ghost use Rattle.std.specs.Prelude.{◌≡◌, ◌≤◌, [], ℕ, All, None, IfErr, IfOk, map, true};
 ghost use Rattle.rx_cert.specs.Findings.{Yes};
 ghost use Rattle.rx_cover.specs.Covering.{Covers, covering};
 ghost use Rattle.rx_find_cover.specs.Answers.{AreSmall};
@@ -146,6 +146,7 @@ fn log_with(
     ranking: Ranking,
 ) -> Result<Log, NoMemory>
     ensures { IfOk result (λ log. log ≡ record {
+      domains = None;
       covers = covers;
       steps = steps.now;
       table = ranking.table;
@@ -154,6 +155,7 @@ fn log_with(
 {
     match own_steps(alloc, steps) {
         Ok(steps) => Ok(Log {
+            domains: None,
             covers,
             steps,
             table: ranking.table,

@@ -40,6 +40,7 @@ fn large_line(alloc: Global, place: LimitAt) -> Result<String, AllocError>
     ensures { IfOk result (λ line. string_bytes line ≡ spec.large_line place) }
 {
     match place {
+        LimitAt::Keep(part) => numbered_line(alloc, "LARGE keep ", part),
         LimitAt::Cover(symbol) => numbered_line(alloc, "LARGE cover s", symbol),
         LimitAt::Step(step) => numbered_line(alloc, "LARGE step ", step),
         LimitAt::Pair(pair) => numbered_line(alloc, "LARGE pair ", pair),
@@ -51,6 +52,8 @@ pub fn check_line(alloc: Global, end: CheckEnd) -> Result<String, AllocError>
     ensures { IfOk result (λ line. string_bytes line ≡ spec.check_line end) }
 {
     match end {
+        CheckEnd::BadDomain { sym } => numbered_line(alloc, "REFUSED domain s", sym),
+        CheckEnd::NotKept { part } => numbered_line(alloc, "REFUSED keep ", part),
         CheckEnd::Step { step, end } => unmet_line(alloc, step, end),
         CheckEnd::Unfinished { goals } => {
             numbered_line(alloc, "REFUSED unfinished ", goals as usize)

@@ -1,9 +1,8 @@
 -- What the lines of the log give is what is said of it.
-use Rattle.std.proofs.Common.{◌≡◌, [], refl}
+use Rattle.std.proofs.Common.{[], refl}
 use Rattle.std.proofs.lemmas.Result.{err_from_is_err_and}
 use Rattle.rx_log.specs.Reading.{blank}
-use Rattle.rx_log.specs.declared.log.Log.{Log}
-use Rattle.rx_check.specs.Whole.{Replays, front_of}
+use Rattle.rx_check.specs.Whole.{Replays}
 use Rattle.rx_check.proofs.Sound.{replayed_answer, replayed_sound}
 use Rattle.rx_check.proofs.replaying.replay.Goals as goal
 

@@ -4,5 +4,6 @@ use Rattle.rx_logtext.proofs.steps.read_expand.Goals as goal
 
 pub returns-in-None : goal.returns-in-None
 returns-in-None c =
-    kind_reads expand_kind c.args.line.now (drop c.args.at c.args.line.now) c.requires None
+    kind_reads (expand_kind c.args.version) c.args.line.now (drop c.args.at c.args.line.now)
+    c.requires None
     (rw c.in-None.is at c.in_ok-side.ensures)

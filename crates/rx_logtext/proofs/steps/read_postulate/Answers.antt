@@ -4,5 +4,7 @@ use Rattle.rx_logtext.proofs.steps.read_postulate.Goals as goal
 
 pub returns-in-None : goal.returns-in-None
 returns-in-None c =
-    kind_reads postulate_kind c.args.line.now (drop c.args.at c.args.line.now) c.requires None
-    (rw c.in-None.is at c.in_ok-left.ensures)
+    let none = rw c.in-None.is at c.in_ok-left.ensures in
+    kind_reads (postulate_kind c.args.version) c.args.line.now (drop c.args.at c.args.line.now)
+    c.requires None
+    (λ thing t. none thing (record { in_range = t.in_range; text = t.text }))

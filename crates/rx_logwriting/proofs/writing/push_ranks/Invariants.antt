@@ -1,11 +1,11 @@
 -- What is written, and the lines that are left, are all lines.
 use Rattle.std.proofs.Common.{◌≡◌, ◌++◌, drop}
 use Rattle.rx_log.specs.Lines.{by_symbol}
-use Rattle.rx_logtext.specs.Logs.{ended, line_texts}
+use Rattle.rx_logwriting.specs.Frames.{frame_texts}
 use Rattle.rx_log.specs.declared.line.Line.TheVariants as line
 use Rattle.rx_logwriting.proofs.writing.push_ranks.Given as goal
 
 abbrev pub invariant-loop-symbol : goal.invariant-loop-symbol
 invariant-loop-symbol l =
-    l.out.items ++ ended (line_texts (by_symbol line.Rank l.symbol (drop l.symbol l.ranks)))
-    ≡ l.initial.out.items ++ ended (line_texts (by_symbol line.Rank 0 l.ranks))
+    l.out.items ++ frame_texts (by_symbol line.Rank l.symbol (drop l.symbol l.ranks))
+    ≡ l.initial.out.items ++ frame_texts (by_symbol line.Rank 0 l.ranks)

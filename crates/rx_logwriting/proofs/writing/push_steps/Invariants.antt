@@ -7,5 +7,5 @@ use Rattle.rx_logwriting.proofs.writing.push_steps.Given as goal
 
 abbrev pub invariant-loop-step : goal.invariant-loop-step
 invariant-loop-step l =
-    l.out.items ++ ended (line_texts (plain line.Step (drop l.step-index l.steps)))
-    ≡ l.initial.out.items ++ ended (line_texts (plain line.Step l.steps))
+    l.out.items ++ ended (line_texts l.version (plain line.Step (drop l.step-index l.steps)))
+    ≡ l.initial.out.items ++ ended (line_texts l.version (plain line.Step l.steps))

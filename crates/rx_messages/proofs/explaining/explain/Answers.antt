@@ -1,4 +1,4 @@
--- Where the log can't be read, nothing is written.
+-- Where the log can't be read, or there is no memory, nothing is written.
 use Rattle.std.specs.Prelude.{◌≡◌, map, string_bytes}
 use Rattle.std.proofs.Common.{◌∙◌, ap}
 use Rattle.std.proofs.lemmas.Result.{err_from_is_err_and}
@@ -7,7 +7,7 @@ use Rattle.rx_command.specs.Commands as words_say
 use Rattle.rx_io.specs.Outside.{Rose}
 use Rattle.rx_messages.specs.Asked.{asked_of, asked_view}
 use Rattle.rx_messages.specs.Logs.{facts_view}
-use Rattle.rx_messages.proofs.ExplainLemmas.{no_facts, other_text}
+use Rattle.rx_messages.proofs.ExplainLemmas.{kept, no_facts, other_text}
 use Rattle.rx_messages.proofs.explaining.explain.Goals as goal
 
 pub returns-in_err-facts-clause-explains : goal.returns-in_err-facts-clause-explains
@@ -39,3 +39,9 @@ returns-in_default-clause-explains g c =
     c.in_ok-text.field-0 c.in_ok-given.ensures.held is c.name_read.ensures
     c.in_ok-given.ensures.reads c.deref.ensures.value c.in_ok-facts.ensures.finds
     c.in_ok-text.ensures c.in_default.is
+
+pub returns-in_err-text-clause-explains : goal.returns-in_err-text-clause-explains
+returns-in_err-text-clause-explains g c =
+    let p = err_from_is_err_and c.from_residual-in_err-text.result
+    c.from_residual-in_err-text.ensures.1 in
+    rw (p.1, p.2) (kept (g.O.Sink.contents c.args.err.now))

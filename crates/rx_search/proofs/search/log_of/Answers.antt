@@ -36,7 +36,7 @@ pub returns-in-Ok-clause-accepted : goal.returns-in-Ok-clause-accepted
 returns-in-Ok-clause-accepted g c = λ goal proof.
     IfOk-weaker c.log_with.result _ (IsAccepted c.args.rules.now goal)
     (λ log same. accepted c.args.rules.now c.requires.no_domains goal c.args.steps.now
-    c.args.hypotheses.now log c.in-Ok.ranking proof
+    c.args.hypotheses.now log c.in-Ok.ranking proof (ap (λ (log : Log). log.domains) same)
     (subst (λ lists. covering c.args.rules.now lists ≡ Covers)
     (sym (ap (λ (log : Log). log.covers) same)) c.in_ok-covers.ensures.covers)
     (ap (λ (log : Log). log.steps) same) (ap (λ (log : Log). log.table) same)
@@ -48,7 +48,8 @@ returns-in-Ok-clause-shallow g c =
     let (goal, proof) = c.requires.proved in
     IfOk-weaker c.log_with.result _ (λ (log : Log). is_shallow_log log ≡ true)
     (λ log same. log_shallow c.args.rules.now log c.in_ok-covers.covers c.args.steps.now
-    c.in-Ok.ranking.certs (ap (λ (log : Log). log.covers) same)
+    c.in-Ok.ranking.certs (ap (λ (log : Log). log.domains) same)
+    (ap (λ (log : Log). log.covers) same)
     (ap (λ (log : Log). log.steps) same) (ap (λ (log : Log). log.pairs) same)
     c.in_ok-covers.ensures.small proof.reached.deep c.in-Ok.ensures.lowers.deep)
     c.log_with.ensures

@@ -1,12 +1,10 @@
 -- The outcome of the step is that of its check.
 use Rattle.std.proofs.Common.{◌≡◌, ◌∙◌, ap, sym, subst, Result}
-use Rattle.std.specs.Prelude.{OnErr}
 use Rattle.rx_inference.specs.States.{State, applied}
 use Rattle.rx_log.specs.Acceptance.{after_step}
-use Rattle.rx_check.specs.Answers.{Finds, of_step_outcome}
+use Rattle.rx_check.specs.Answers.{of_step_outcome}
 use Rattle.rx_check.specs.LineByLine.{IsFailureOf}
 use Rattle.rx_check.specs.declared.check_end.CheckEnd.{CheckEnd}
-use Rattle.rx_check.specs.declared.progress.Progress.{Progress}
 use Rattle.rx_check.proofs.LineAnswers.{so_on_error, step_found, step_keeps_roots, unmade_kept}
 use Rattle.rx_check.proofs.LineFaults.{ends_of}
 use Rattle.rx_check.proofs.progress.Progress.take_counted.Goals as goal

@@ -1,5 +1,5 @@
-use Rattle.rx_check.specs.LineByLine.{log_of}
-use Rattle.rx_check.proofs.LineAnswers.{all_accepted}
+use Rattle.rx_check.specs.Replay.{log_of}
+use Rattle.rx_check.proofs.DomainAnswers.{all_accepted}
 use Rattle.rx_check.proofs.Proofs.{accepted_ends_alike}
 use Rattle.rx_check.proofs.replayer.Replayer.finish.Goals as goal
 

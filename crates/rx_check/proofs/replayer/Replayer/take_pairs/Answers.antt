@@ -1,11 +1,12 @@
 -- Each line may come, and adds its certificate.
-use Rattle.std.proofs.Common.{◌≡◌, ◌∙◌, Some, refl, subst, sym}
+use Rattle.std.proofs.Common.{◌≡◌, Some, refl, subst, sym}
 use Rattle.rx_pairs.specs.declared.pair_cert.PairCert.{PairCert}
 use Rattle.rx_log.specs.Places.{after}
 use Rattle.rx_log.specs.declared.line.Line.TheVariants as line
 use Rattle.rx_log.specs.declared.line_state.LineState.{LineState}
 use Rattle.rx_log.specs.declared.line_state.LineState.TheVariants.{InPairs}
-use Rattle.rx_check.specs.LineByLine.{IsRanked, place_after}
+use Rattle.rx_check.specs.LineByLine.{IsRanked}
+use Rattle.rx_check.specs.Replay.{place_after}
 use Rattle.rx_check.specs.Whole.{with_pairs}
 use Rattle.rx_check.proofs.WholeLines.{all_taken, leads_same, no_pairs, none_taken, one_taken, pair_leads, pairs_pushed_on}
 use Rattle.rx_check.proofs.replayer.Replayer.take_pairs.Goals as goal

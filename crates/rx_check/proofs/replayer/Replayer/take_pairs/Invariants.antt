@@ -1,6 +1,7 @@
 -- The lines of the first pairs have come.
 use Rattle.std.proofs.Common.{take}
-use Rattle.rx_check.specs.LineByLine.{HasRoots, IsRanked, place_after}
+use Rattle.rx_check.specs.LineByLine.{IsRanked}
+use Rattle.rx_check.specs.Replay.{HasRoots, place_after}
 use Rattle.rx_check.specs.Whole.{with_pairs}
 use Rattle.rx_check.proofs.WholeLines.{ReplaysWith}
 use Rattle.rx_check.proofs.replayer.Replayer.take_pairs.Given as goal

@@ -6,7 +6,8 @@ use Rattle.rx_log.specs.Places.{after}
 use Rattle.rx_log.specs.declared.line.Line.TheVariants as line
 use Rattle.rx_log.specs.declared.line_state.LineState.{LineState}
 use Rattle.rx_log.specs.declared.line_state.LineState.TheVariants.{InRanks}
-use Rattle.rx_check.specs.LineByLine.{IsRanked, place_after}
+use Rattle.rx_check.specs.LineByLine.{IsRanked}
+use Rattle.rx_check.specs.Replay.{place_after}
 use Rattle.rx_check.specs.Whole.{with_ranks}
 use Rattle.rx_check.proofs.WholeLines.{all_taken, leads_same, no_ranks_on, none_taken, one_taken, rank_leads, ranks_pushed_on}
 use Rattle.rx_check.proofs.replayer.Replayer.take_ranks.Goals as goal

@@ -1,7 +1,7 @@
 -- The lines of the first symbols have come.
 use Rattle.std.proofs.Common.{◌≡◌, take}
 use Rattle.rx_log.specs.declared.line_state.LineState.TheVariants.{InRanks}
-use Rattle.rx_check.specs.LineByLine.{HasRoots, place_after}
+use Rattle.rx_check.specs.Replay.{HasRoots, place_after}
 use Rattle.rx_check.specs.Whole.{with_ranks}
 use Rattle.rx_check.proofs.WholeLines.{ReplaysWith}
 use Rattle.rx_check.proofs.replayer.Replayer.take_ranks.Given as goal

@@ -1,10 +1,10 @@
 -- The ranks, the pairs, and the end.
-use Rattle.std.proofs.Common.{◌≡◌, subst, sym, List}
+use Rattle.std.proofs.Common.{subst, sym, List}
 use Rattle.rx_poly.specs.declared.body.Body.{Body}
 use Rattle.rx_log.specs.declared.line.Line.TheVariants as line
 use Rattle.rx_log.specs.declared.line_state.LineState.TheVariants.{Finished}
 use Rattle.rx_log.specs.declared.log.Log.{Log}
-use Rattle.rx_check.specs.LineByLine.{place_after}
+use Rattle.rx_check.specs.Replay.{place_after}
 use Rattle.rx_check.specs.Whole.{HasWidths, Replays, front_of, with_ranks}
 use Rattle.rx_check.proofs.Fronts.{rest_made}
 use Rattle.rx_check.proofs.WholeLines.{end_leads, one_line}

@@ -1,11 +1,12 @@
 -- Each line may come, and adds its step.
-use Rattle.std.proofs.Common.{◌≡◌, ◌∙◌, Some, refl, subst, sym}
+use Rattle.std.proofs.Common.{◌≡◌, Some, refl, subst, sym}
 use Rattle.rx_inference.specs.declared.step.Step.{Step}
 use Rattle.rx_log.specs.Places.{after}
 use Rattle.rx_log.specs.declared.line.Line.TheVariants as line
 use Rattle.rx_log.specs.declared.line_state.LineState.{LineState}
 use Rattle.rx_log.specs.declared.line_state.LineState.TheVariants.{InSteps}
-use Rattle.rx_check.specs.LineByLine.{IsOpen, place_after}
+use Rattle.rx_check.specs.LineByLine.{IsOpen}
+use Rattle.rx_check.specs.Replay.{place_after}
 use Rattle.rx_check.specs.Whole.{with_steps}
 use Rattle.rx_check.proofs.WholeLines.{all_taken, leads_same, no_steps, none_taken, one_taken, step_leads, steps_pushed_on}
 use Rattle.rx_check.proofs.replayer.Replayer.take_steps.Goals as goal

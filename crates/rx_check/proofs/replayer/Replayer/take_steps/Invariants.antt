@@ -1,6 +1,7 @@
 -- The lines of the first steps have come.
 use Rattle.std.proofs.Common.{take}
-use Rattle.rx_check.specs.LineByLine.{HasRoots, IsOpen, place_after}
+use Rattle.rx_check.specs.LineByLine.{IsOpen}
+use Rattle.rx_check.specs.Replay.{HasRoots, place_after}
 use Rattle.rx_check.specs.Whole.{with_steps}
 use Rattle.rx_check.proofs.WholeLines.{ReplaysWith}
 use Rattle.rx_check.proofs.replayer.Replayer.take_steps.Given as goal

@@ -1,12 +1,16 @@
 use Rattle.std.proofs.Common.{◌≡◌, ◌<◌, ℕ, Option, eqb, sym, subst, List, [], ◌∷◌, length, false}
 use Rattle.std.specs.Prelude.{IfSome}
 use Rattle.rx_logfile.specs.Checking.{IsCount, TakesLine}
-use Rattle.rx_logfile.proofs.LogFileLemmas.{TakenSoFar, fewer_left, line_taken}
+use Rattle.rx_logfile.proofs.LogFileLemmas.{TakenSoFar, fewer_left, line_taken, nothing_taken}
 use Rattle.rx_logfile.proofs.log_check.LogCheck.take.Goals as goal
 
 some_left : (xs : List ℕ) → eqb (length xs) 0 ≡ false → xs ≡ [] → ⊥
 some_left [] e f = cc
 some_left (x ∷ xs) e f = cc
+
+pub loop-left-init : goal.loop-left-init
+loop-left-init c =
+    nothing_taken c.args.rules.now c.args.piece.now c.requires.step c.requires.room
 
 pub loop-left-smaller : goal.loop-left-smaller
 loop-left-smaller c =

@@ -8,5 +8,5 @@ returns-then-self c = λ parts target number log h.
 
 pub returns : goal.returns
 returns c = λ parts target number log h.
-    ends_at parts target number log c.args.self h c.in_ok-line.line c.in_ok-line.ensures
-    c.if-self.false
+    ends_at parts target number log c.args.self h c.known_fronts-fronts.result c.in_ok-line.line
+    c.known_fronts-fronts.ensures c.in_ok-line.ensures c.if-self.false
