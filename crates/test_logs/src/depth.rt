@@ -29,6 +29,7 @@ fn log_of(alloc: Global, depth: usize) -> Option<Log> {
         .push(Step::Delete(Delete::Absurd(nested(alloc, depth)?)))
         .ok()?;
     Some(Log {
+        domains: None,
         covers: Items::new(alloc),
         steps,
         table: RankTable {
