@@ -1,0 +1,19 @@
+-- The part of the term that is left decides.
+use Rattle.std.proofs.Common.{◌≡◌}
+use Rattle.std.specs.List.{fold}
+use Rattle.rx_solve.specs.Answers.{IsSolver}
+use Rattle.rx_term.specs.Stacks.{depth_of}
+use Rattle.rx_find_domains.specs.Finding.{at_occurrence}
+use Rattle.rx_find_domains.specs.Parts.{occurrences_of}
+use Rattle.rx_find_domains.proofs.passes.visit_term.Given as goal
+
+abbrev pub invariant-loop-here : goal.invariant-loop-here
+invariant-loop-here g l = record {
+  solver : IsSolver g.S.FnMut l.solve;
+  decides :
+      fold (at_occurrence l.given) l.lists.items (occurrences_of l.here)
+      ≡ fold (at_occurrence l.given) l.fn.lists.items (occurrences_of l.term);
+}
+
+abbrev pub decreases-loop-here : goal.decreases-loop-here
+decreases-loop-here g l = depth_of l.here

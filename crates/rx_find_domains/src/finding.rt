@@ -1,0 +1,71 @@
+//! The domains that are found.
+ghost use Rattle.std.specs.Prelude.{◌≡◌, None, IfOk};
+ghost use Rattle.rx_domain.specs.Keeping.{Keeps, keeping};
+ghost use Rattle.rx_domain.specs.Setting.{bad_domain, with_domains};
+ghost use Rattle.rx_solve.specs.Answers.{IsSolver};
+ghost use Rattle.rx_find_domains.specs.Finding.{found_domains};
+ghost use Rattle.rx_find_domains.specs.Kept.{AreAllKeeps};
+
+use crate::candidates::all_candidates;
+use crate::groups::find_groups;
+use crate::keeps::find_keeps;
+use crate::passes::settle;
+use rx_cert::Cert;
+use rx_domain::Domains;
+use rx_fm::FmEnd;
+use rx_plain::{Items, NoMemory};
+use rx_row::Constraint;
+use rx_term::{Equation, RuleSet};
+use std::alloc::Global;
+
+/// The rows of each symbol: its candidates, but for those that aren't kept.
+fn find_rows<S: FnMut(&Constraint) -> Result<Option<Cert>, FmEnd>>(
+    alloc: Global,
+    rules: &RuleSet,
+    goal: &Equation,
+    solve: &mut S,
+) -> Result<Items<Constraint>, NoMemory>
+    requires solver { IsSolver S.FnMut solve.old }
+    ensures solver { IsSolver S.FnMut solve.new }
+    ensures rows { IfOk result (λ rows. rows ≡ found_domains rules.now goal.now) }
+{
+    let parts = rules.parts();
+    if parts.symbols.len() > u32::MAX as usize {
+        return Err(NoMemory);
+    }
+    let names = find_groups(alloc, parts)?;
+    let mut lists = all_candidates(alloc, names.as_slice(), parts, goal)?;
+    settle(alloc, parts, goal, &mut lists, solve)?;
+    Ok(Items::from_vec(lists))
+}
+
+/// Domains for the symbols of the rules: rows that both sides of the goal and the right sides of
+/// the rules keep, as the solver shows it, with certificates of that. The rules' own domains aren't
+/// looked at.
+///
+/// Symbols that a chain of pairs links are one group; a pair whose right symbol is the entry of a
+/// function links none. The rows of a symbol are taken from the rows of the goal, where a redex of
+/// it is of the symbol's group, and of the rules whose left side's outermost symbol is: the first
+/// twelve of those over the symbol's arguments, each once. Of these a row is dropped as soon as it
+/// isn't shown somewhere, until nothing is. What passes the limits isn't shown.
+///
+/// Fails only where there is no memory, which is also the answer for 2^32 symbols or more.
+pub fn find_domains<S: FnMut(&Constraint) -> Result<Option<Cert>, FmEnd>>(
+    alloc: Global,
+    rules: &RuleSet,
+    goal: &Equation,
+    solve: &mut S,
+) -> Result<Domains, NoMemory>
+    requires solver { IsSolver S.FnMut solve.old }
+    ensures solver { IsSolver S.FnMut solve.new }
+    ensures rows { IfOk result (λ found. found.rows ≡ found_domains rules.now goal.now) }
+    ensures lawful { IfOk result (λ found. bad_domain rules.now.symbols found.rows ≡ None) }
+    ensures keeps { IfOk result (λ found.
+        keeping (with_domains rules.now found.rows) goal.now found.keeps ≡ Keeps) }
+    ensures certificates { IfOk result (λ found.
+        AreAllKeeps (with_domains rules.now found.rows) goal.now found.keeps) }
+{
+    let rows = find_rows(alloc, rules, goal, solve)?;
+    let keeps = find_keeps(alloc, rules, goal, rows.as_slice(), solve)?;
+    Ok(Domains { rows, keeps })
+}
