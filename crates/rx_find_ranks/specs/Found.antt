@@ -1,15 +1,13 @@
 -- What the answers of a search for ranks say.
-use Rattle.std.specs.Prelude.{◌≡◌, ◌≤◌, ◌++◌, true, All, Option, Some, None, Result, Ok, Err, List}
+use Rattle.std.specs.Prelude.{◌≡◌, ◌≤◌, ◌++◌, All, Option, Some, None, Result, Ok, Err, List}
 use Rattle.rx_cert.specs.Depth.{cert_depth}
 use Rattle.rx_cert.specs.Findings.{Said, Yes, No, Beyond}
 use Rattle.rx_cert.specs.declared.cert.Cert.{Cert}
 use Rattle.rx_fm.specs.declared.fm_end.FmEnd.{FmEnd}
 use Rattle.rx_fm.specs.declared.fm_end.FmEnd.TheVariants.{Large}
-use Rattle.rx_pairs.specs.Inside.{descent_in}
+use Rattle.rx_pairs.specs.Inside.{descends_in}
 use Rattle.rx_pairs.specs.Lowering.{Descends}
-use Rattle.rx_pairs.specs.Pairs.{AreAllPairs}
 use Rattle.rx_pairs.specs.Ranks.{bad_rank}
-use Rattle.rx_pairs.specs.declared.pair.Pair.{Pair}
 use Rattle.rx_pairs.specs.declared.pair_cert.PairCert.{PairCert}
 use Rattle.rx_pairs.specs.declared.table.RankTable.{RankTable}
 use Rattle.rx_find_ranks.specs.declared.ranking.Ranking.{Ranking}
@@ -28,11 +26,10 @@ pub record HasColumns (table : RankTable) : Type 0 where
   pub some : 1 ≤ table.columns
   pub few : table.columns ≤ 15
 
--- the ranks are lawful for the symbols, and all pairs of the rules and of the hypotheses are lower
--- by them, by certificates that are at most 174 deep
+-- the ranks are lawful for the symbols, and all pairs of the rules and of the hypotheses inside the
+-- domains are lower by them, by certificates that are at most 174 deep
 pub record LowersAll (parts : RuleParts) (hypotheses : List Rule) (found : Ranking) : Type 0 where
   pub lawful : bad_rank parts found.table ≡ None
-  pub lower : (pairs : List Pair) → AreAllPairs (parts.rules ++ hypotheses) pairs →
-      descent_in found.table true 0 pairs found.certs ≡ Descends
+  pub lower : descends_in parts (parts.rules ++ hypotheses) found.table found.certs ≡ Descends
   pub deep : All (λ (c : PairCert). All (λ (cert : Cert). cert_depth cert ≤ most_deep) c.certs)
       found.certs

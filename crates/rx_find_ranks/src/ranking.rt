@@ -11,7 +11,7 @@ use crate::rounds::rank_from;
 use crate::table::ranking_of;
 use rx_cert::Cert;
 use rx_fm::FmEnd;
-use rx_pairs::{PairCert, RankTable, all_pairs};
+use rx_pairs::{PairCert, RankTable, listed_pairs};
 use rx_plain::{Items, NoMemory};
 use rx_rank::{Attempt, PairMemo};
 use rx_row::Constraint;
@@ -27,7 +27,8 @@ pub struct Ranking {
     pub certs: Items<PairCert>,
 }
 
-/// The ranking of the pairs of the rules and of the hypotheses.
+/// The ranking of the pairs of the rules and of the hypotheses inside the domains; without a table
+/// where these pass the limits, which is noted.
 fn rank_all<S: FnMut(&Constraint) -> Result<Option<Cert>, FmEnd>>(
     alloc: Global,
     rules: &RuleSet,
@@ -48,7 +49,14 @@ fn rank_all<S: FnMut(&Constraint) -> Result<Option<Cert>, FmEnd>>(
     if symbols > u32::MAX as usize {
         return Err(NoMemory);
     }
-    let pairs = all_pairs(alloc, parts.rules.as_slice(), hypotheses)?;
+    let listed = listed_pairs(alloc, rules, hypotheses)?;
+    if !listed.whole {
+        return Ok(Attempt {
+            made: None,
+            noted: true,
+        });
+    }
+    let pairs = listed.pairs.into_vec();
     let start = begin(alloc, pairs)?;
     let tried = rank_from(alloc, parts, hypotheses, 7, start, memo, solve)?;
     let noted = tried.noted;
@@ -69,10 +77,11 @@ fn rank_all<S: FnMut(&Constraint) -> Result<Option<Cert>, FmEnd>>(
     }
 }
 
-/// Finds ranks by which all pairs of the rules and of the hypotheses are lower, as the solver shows
-/// it, in one to fifteen columns. None where there are none of the kind that is tried; Large where there are none and
-/// something on the way passed the limits. What is found out of pairs is kept in the memo, and what
-/// it has isn't asked again; it may come from other rules, hypotheses and solvers.
+/// Finds ranks by which all pairs of the rules and of the hypotheses inside the domains are lower,
+/// as the solver shows it, in one to fifteen columns. None where there are none of the kind that is
+/// tried; Large where there are none and something on the way passed the limits. What is found out
+/// of pairs is kept in the memo, and what it has isn't asked again; it may come from other rules,
+/// hypotheses and solvers.
 pub fn find_ranks_with<S: FnMut(&Constraint) -> Result<Option<Cert>, FmEnd>>(
     alloc: Global,
     rules: &RuleSet,

@@ -1,19 +1,21 @@
 -- Rounds over the open pairs alone.
-use Rattle.std.proofs.Common.{◌≡◌, ◌∙◌, ap, sym, subst, refl, ℕ, zero, suc, Bool, Option, Some, None, List, [], ◌∷◌, ◌++◌, append_assoc, length, All}
-use Rattle.std.proofs.lemmas.List.Elements.{All-append, All-weaker}
+use Rattle.std.proofs.Common.{◌≡◌, ◌∙◌, ap, sym, subst, refl, cond, ℕ, zero, suc, Bool, true, false, Option, Some, None, List, [], ◌∷◌, ◌++◌, length, map, All}
+use Rattle.std.proofs.lemmas.List.Elements.{All-append, All-map}
 use Rattle.rx_graph.specs.Graph.{IsOver}
-use Rattle.rx_pairs.proofs.ListedLaws.{all_listed, only_all_listed}
+use Rattle.rx_pairs.proofs.InsideLaws.{joined, listing-append, whole_listed}
 use Rattle.rx_pairs.proofs.LoopLaws.{all_within}
+use Rattle.rx_pairs.proofs.Lowered.{made_fit}
 use Rattle.rx_pairs.proofs.PairsLaws.{made_roots}
 use Rattle.rx_pairs.specs.Graph.{edges_of}
-use Rattle.rx_pairs.specs.Listed.{pairs_by, pairs_by_all}
-use Rattle.rx_pairs.specs.Pairs.{AreAllPairs, HasRoot, SidesFit}
+use Rattle.rx_pairs.specs.Inside.{bounded, listing}
+use Rattle.rx_pairs.specs.Pairs.{HasRoot, SidesFit}
+use Rattle.rx_pairs.specs.declared.listing.Listing.{Listing}
 use Rattle.rx_pairs.specs.declared.pair.Pair.{Pair}
 use Rattle.rx_rank.specs.Components.{inside}
-use Rattle.rx_rank.specs.Ranking.{polynomials, ranking_from, unless_closed}
+use Rattle.rx_rank.specs.Ranking.{polynomials, ranking, ranking_from, ranking_of, unless_closed}
 use Rattle.rx_rank.specs.Tries.{and_then, made_then, noting}
-use Rattle.rx_solve.specs.Attempts.{Tried, applies, fails}
-use Rattle.rx_term.specs.WellMade.{IsMade, IsWellMade}
+use Rattle.rx_solve.specs.Attempts.{Tried, applies, beyond, fails}
+use Rattle.rx_term.specs.WellMade.{IsWellMade}
 use Rattle.rx_term.specs.declared.rule.Rule.{Rule}
 use Rattle.rx_term.specs.declared.rule_set.RuleParts.{RuleParts}
 
@@ -87,31 +89,71 @@ module _ (parts : RuleParts) (hypotheses : List Rule) where
 
 -- ---- the pairs of the rules, and those of the hypotheses after them
 
-listed_after : (rules more : List Rule) → pairs_by_all (rules ++ more) ≡
-    pairs_by_all rules ++ pairs_by_all more
-listed_after [] more = refl
-listed_after (rule ∷ rules) more =
-    ap (λ ps. pairs_by rule ++ ps) (listed_after rules more) ∙
-    sym (append_assoc (pairs_by rule) (pairs_by_all rules) (pairs_by_all more))
+module _ (parts : RuleParts) (hypotheses : List Rule) where
+  not_whole : (listed : Listing) → listed.whole ≡ false → beyond ≡ ranking_of parts hypotheses listed
+  not_whole listed e =
+      ap (λ (b : Bool). cond b (ranking_from parts hypotheses 7 listed.pairs) beyond) (sym e)
 
-module _ (parts lent : RuleParts) (hypotheses : List Rule) (same : lent ≡ parts)
-    (made : IsWellMade parts) (roots : All HasRoot hypotheses)
-    (fit : All (SidesFit parts) hypotheses) (pairs more both : List Pair)
-    (are : AreAllPairs parts.rules pairs) (also : AreAllPairs hypotheses more)
-    (both_is : both ≡ pairs ++ more) where
-  pub both_listed : both ≡ pairs_by_all (parts.rules ++ hypotheses)
-  both_listed =
-      both_is
-      ∙ (λ i. only_all_listed parts.rules pairs are i ++ only_all_listed hypotheses more also i)
-      ∙ sym (listed_after parts.rules hypotheses)
+  is_whole : (listed : Listing) → listed.whole ≡ true →
+      ranking_from parts hypotheses 7 listed.pairs ≡ ranking_of parts hypotheses listed
+  is_whole listed e =
+      ap (λ (b : Bool). cond b (ranking_from parts hypotheses 7 listed.pairs) beyond) (sym e)
 
-  pub both_over : IsOver (length lent.symbols) (edges_of both)
-  both_over =
-      subst (λ (ps : RuleParts). IsOver (length ps.symbols) (edges_of both)) (sym same)
-      (subst (λ ps. IsOver (length parts.symbols) (edges_of ps)) (sym both_listed)
-      (all_within parts (parts.rules ++ hypotheses) (pairs_by_all (parts.rules ++ hypotheses))
-      (all_listed (parts.rules ++ hypotheses) (All-append HasRoot parts.rules hypotheses
-      (made_roots parts parts.rules made) roots))
-      (All-append (SidesFit parts) parts.rules hypotheses
-      (All-weaker (IsMade parts) (SidesFit parts) (λ rule m. (m.left_fits, m.right_fits))
-      parts.rules made) fit)))
+  -- the pairs of the rules aren't all listed
+  ends_first : (first others : Listing) → first.whole ≡ false →
+      (joined first others).whole ≡ false
+  ends_first first others e =
+      ap (λ (b : Bool). (cond b (record {
+        pairs = first.pairs ++ others.pairs;
+        whole = others.whole;
+      }) first).whole) e ∙ e
+
+  pub rules_beyond : (first : Listing) → first ≡ listing parts parts.rules → first.whole ≡ false →
+      beyond ≡ ranking parts hypotheses
+  rules_beyond first is e =
+      not_whole (joined first (listing parts hypotheses))
+      (ends_first first (listing parts hypotheses) e)
+      ∙ ap (ranking_of parts hypotheses) (ap (λ l. joined l (listing parts hypotheses)) is
+      ∙ sym (listing-append parts parts.rules hypotheses))
+
+  module _ (first : List Pair)
+      (first_is : record { pairs = first; whole = true } ≡ listing parts parts.rules)
+      (more : Listing) (more_is : more ≡ listing parts hypotheses) where
+    all_is : record { pairs = first ++ more.pairs; whole = more.whole } ≡
+        listing parts (parts.rules ++ hypotheses)
+    all_is =
+        (λ i. joined (first_is i) (more_is i)) ∙ sym (listing-append parts parts.rules hypotheses)
+
+    -- those of the hypotheses aren't
+    pub hypotheses_beyond : more.whole ≡ false → beyond ≡ ranking parts hypotheses
+    hypotheses_beyond e =
+        not_whole (record { pairs = first ++ more.pairs; whole = more.whole }) e
+        ∙ ap (ranking_of parts hypotheses) all_is
+
+    module _ (lent : RuleParts) (same : lent ≡ parts) (e : more.whole ≡ true) where
+      -- they are
+      pub all_ranked : ranking_from lent hypotheses 7 (first ++ more.pairs) ≡
+          ranking parts hypotheses
+      all_ranked =
+          ap (λ (ps : RuleParts). ranking_from ps hypotheses 7 (first ++ more.pairs)) same
+          ∙ is_whole (record { pairs = first ++ more.pairs; whole = more.whole }) e
+          ∙ ap (ranking_of parts hypotheses) all_is
+
+      abbrev all : List Rule
+      all = parts.rules ++ hypotheses
+
+      -- and they are of the symbols
+      pub all_over : IsWellMade parts → All HasRoot hypotheses → All (SidesFit parts) hypotheses →
+          IsOver (length lent.symbols) (edges_of (first ++ more.pairs))
+      all_over made roots fit =
+          subst (λ (ps : RuleParts). IsOver (length ps.symbols) (edges_of (first ++ more.pairs)))
+          (sym same)
+          (subst (λ (ps : List Pair). IsOver (length parts.symbols) (edges_of ps))
+          (sym (ap (λ (l : Listing). l.pairs) all_is))
+          (all_within parts (map (bounded parts) all) (listing parts all).pairs
+          (whole_listed parts all (All-append HasRoot parts.rules hypotheses
+          (made_roots parts parts.rules made) roots)
+          (sym (ap (λ (l : Listing). l.whole) all_is) ∙ e))
+          (All-map (SidesFit parts) (bounded parts) all
+          (All-append (SidesFit parts) parts.rules hypotheses (made_fit parts parts.rules made)
+          fit))))

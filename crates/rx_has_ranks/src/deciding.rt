@@ -1,18 +1,21 @@
 //! Whether there are ranks, without a table of them.
-ghost use Rattle.std.specs.Prelude.{◌≡◌, ◌≤◌, ◌^◌, ◌++◌, All, IfOk, OnOk, length};
+ghost use Rattle.std.specs.Prelude.{◌≡◌, ◌≤◌, ◌^◌, ◌++◌, true, All, IfOk, OnOk, length};
 ghost use Rattle.rx_graph.specs.Graph.{IsOver};
 ghost use Rattle.rx_pairs.specs.Graph.{edges_of};
-ghost use Rattle.rx_pairs.specs.Pairs.{AreAllPairs, HasRoot, SidesFit};
+ghost use Rattle.rx_pairs.specs.Inside.{listing};
+ghost use Rattle.rx_pairs.specs.Pairs.{HasRoot, SidesFit};
 ghost use Rattle.rx_rank.specs.Answers.{pairs_at, tried_only};
 ghost use Rattle.rx_rank.specs.Ranking.{ranked, ranking, ranking_from};
 ghost use Rattle.rx_has_ranks.specs.HasRanks.{HasRanksAnswer};
 ghost use Rattle.rx_solve.specs.Answers.{IsSolver};
+ghost use Rattle.rx_solve.specs.Attempts.{beyond};
 
+use crate::hypotheses::hypothesis_pairs;
 use crate::rank_memo::RankMemo;
 use crate::staying::{left_after, open_pairs};
 use rx_cert::Cert;
 use rx_fm::FmEnd;
-use rx_pairs::{Pair, all_pairs};
+use rx_pairs::{Listing, Pair};
 use rx_plain::NoMemory;
 use rx_rank::{Attempt, noted_before};
 use rx_row::Constraint;
@@ -71,17 +74,51 @@ fn decide_from<S: FnMut(&Constraint) -> Result<Option<Cert>, FmEnd>>(
     }
 }
 
-/// What comes of the ranking of the pairs of the rules and of the hypotheses.
-fn decide_all<S: FnMut(&Constraint) -> Result<Option<Cert>, FmEnd>>(
+/// What comes where not all pairs are listed.
+fn not_listed() -> Attempt<()>
+    ensures { tried_only result ≡ beyond }
+{
+    Attempt {
+        made: None,
+        noted: true,
+    }
+}
+
+/// What comes of the ranking of all these pairs.
+fn decide_listed<S: FnMut(&Constraint) -> Result<Option<Cert>, FmEnd>>(
+    alloc: Global,
+    parts: &RuleParts,
+    hypotheses: &[Rule],
+    first: &[Pair],
+    others: &[Pair],
+    memo: &mut RankMemo,
+    solve: &mut S,
+) -> Result<Attempt<()>, NoMemory>
+    requires solver { IsSolver S.FnMut solve.old }
+    requires over { IsOver (length parts.now.symbols) (edges_of (first.now ++ others.now)) }
+    requires few { length parts.now.symbols ≤ 2 ^ 32 }
+    ensures solver { IsSolver S.FnMut solve.new }
+    ensures tried { IfOk result (λ t. tried_only t ≡
+        ranking_from parts.now hypotheses.now 7 (first.now ++ others.now)) }
+{
+    let mut refs = Vec::with_capacity(alloc, first.len())?;
+    push_borrowed(&mut refs, first)?;
+    push_borrowed(&mut refs, others)?;
+    decide_from(alloc, parts, hypotheses, 7, refs.as_slice(), memo, solve)
+}
+
+/// What comes of the ranking of the pairs of the rules, which are all listed, and of those of the
+/// hypotheses.
+fn decide_after<S: FnMut(&Constraint) -> Result<Option<Cert>, FmEnd>>(
     alloc: Global,
     rules: &RuleSet,
-    pairs: &[Pair],
+    first: &[Pair],
     hypotheses: &[Rule],
     memo: &mut RankMemo,
     solve: &mut S,
 ) -> Result<Attempt<()>, NoMemory>
     requires solver { IsSolver S.FnMut solve.old }
-    requires pairs { AreAllPairs rules.now.rules pairs.now }
+    requires listed { record { pairs = first.now; whole = true } ≡ listing rules.now rules.now.rules }
     requires roots { All HasRoot hypotheses.now }
     requires fits { All (SidesFit rules.now) hypotheses.now }
     ensures solver { IsSolver S.FnMut solve.new }
@@ -91,32 +128,60 @@ fn decide_all<S: FnMut(&Constraint) -> Result<Option<Cert>, FmEnd>>(
     if parts.symbols.len() > u32::MAX as usize {
         return Err(NoMemory);
     }
-    let more = all_pairs(alloc, &[], hypotheses)?;
-    let mut refs = Vec::with_capacity(alloc, pairs.len())?;
-    push_borrowed(&mut refs, pairs)?;
-    push_borrowed(&mut refs, more.as_slice())?;
-    decide_from(alloc, parts, hypotheses, 7, refs.as_slice(), memo, solve)
+    let more = hypothesis_pairs(alloc, rules, hypotheses)?;
+    if more.whole {
+        let others = more.pairs.as_slice();
+        decide_listed(alloc, parts, hypotheses, first, others, memo, solve)
+    } else {
+        Ok(not_listed())
+    }
 }
 
-/// Whether there are ranks by which all pairs of the rules and of the hypotheses are lower, as the
-/// solver shows it; Large where there are none and something on the way passed the limits. The
-/// pairs of the rules are given. Tests of pairs and components of graphs are kept in the memo.
+/// What comes of the ranking of the pairs of the rules and of the hypotheses. Where those of the
+/// rules aren't all listed, none of the hypotheses is made.
+fn decide_all<S: FnMut(&Constraint) -> Result<Option<Cert>, FmEnd>>(
+    alloc: Global,
+    rules: &RuleSet,
+    listed: &Listing,
+    hypotheses: &[Rule],
+    memo: &mut RankMemo,
+    solve: &mut S,
+) -> Result<Attempt<()>, NoMemory>
+    requires solver { IsSolver S.FnMut solve.old }
+    requires listed { listed.now ≡ listing rules.now rules.now.rules }
+    requires roots { All HasRoot hypotheses.now }
+    requires fits { All (SidesFit rules.now) hypotheses.now }
+    ensures solver { IsSolver S.FnMut solve.new }
+    ensures tried { IfOk result (λ t. tried_only t ≡ ranking rules.now hypotheses.now) }
+{
+    if listed.whole {
+        let first = listed.pairs.as_slice();
+        decide_after(alloc, rules, first, hypotheses, memo, solve)
+    } else {
+        Ok(not_listed())
+    }
+}
+
+/// Whether there are ranks by which all pairs of the rules and of the hypotheses inside the domains
+/// are lower, as the solver shows it; Large where there are none and something on the way passed the
+/// limits, as where the pairs aren't all listed. Those of the rules are given. Tests of pairs and
+/// components of graphs are kept in the memo.
 pub fn has_ranks_with<S: FnMut(&Constraint) -> Result<Option<Cert>, FmEnd>>(
     alloc: Global,
     rules: &RuleSet,
-    pairs: &[Pair],
+    listed: &Listing,
     hypotheses: &[Rule],
     memo: &mut RankMemo,
     solve: &mut S,
 ) -> Result<bool, FmEnd>
     requires solver { IsSolver S.FnMut solve.old }
-    requires pairs { AreAllPairs rules.now.rules pairs.now }
+    requires listed { listed.now ≡ listing rules.now rules.now.rules }
     requires roots { All HasRoot hypotheses.now }
     requires fits { All (SidesFit rules.now) hypotheses.now }
     ensures solver { IsSolver S.FnMut solve.new }
     ensures answer { HasRanksAnswer (ranked rules.now hypotheses.now) result }
 {
-    match decide_all(alloc, rules, pairs, hypotheses, memo, solve) {
+    match decide_all(alloc, rules, listed, hypotheses, memo, solve) {
         Ok(tried) => {
             let noted = tried.noted;
             match tried.made {

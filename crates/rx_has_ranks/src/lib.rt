@@ -8,6 +8,7 @@
 
 mod components_memo;
 mod deciding;
+mod hypotheses;
 mod rank_memo;
 mod staying;
 

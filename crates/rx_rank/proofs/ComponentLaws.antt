@@ -1,16 +1,18 @@
 -- The polynomials of a fit choice are of the component's symbols, over their arguments, with no
 -- variables but those of the rules' rows and of the pairs.
-use Rattle.std.proofs.Common.{◌≡◌, ◌∙◌, ap, sym, subst, refl, ℕ, zero, suc, ◌==◌, ◌+◌, Bool, true, false, ◌&&◌, not, cond, Option, Some, None, List, [], ◌∷◌, ◌++◌, length, map, take}
+use Rattle.std.proofs.Common.{◌≡◌, ◌∙◌, ap, sym, subst, refl, ℕ, zero, suc, pos, ◌==◌, ◌+◌, Bool, true, false, ◌&&◌, not, cond, Option, Some, None, List, [], ◌∷◌, ◌++◌, length, map, take}
 use Rattle.std.proofs.lemmas.Bool.{and_parts}
-use Rattle.std.proofs.lemmas.List.Elements.{All-cons, All-contains, All-filter, All-head, All-nil, All-tail, All-take, All-weaker, filter_passes}
-use Rattle.std.specs.List.{All, AllZip, filter, find, list_all}
+use Rattle.std.proofs.lemmas.List.Elements.{All-cons, All-contains, All-append, All-filter, All-head, All-map, All-nil, All-tail, All-take, All-weaker, filter_passes}
+use Rattle.std.specs.List.{All, AllZip, filter, find, flat_map, list_all}
 use Rattle.std.specs.Option.{IfSome, option_map}
+use Rattle.rx_poly.specs.Constants.{number}
+use Rattle.rx_poly.specs.Limits.{body_sum, is_within}
 use Rattle.rx_poly.specs.Substitution.{subst_body, numbered, numbered_from, replaced}
 use Rattle.rx_poly.specs.Variables.{uses_below, variables}
 use Rattle.rx_poly.specs.declared.body.Body.{Body}
 use Rattle.rx_poly_laws.specs.Tests.{passes}
 use Rattle.rx_poly_laws.proofs.InstanceVariables.{instance_passes}
-use Rattle.rx_poly_laws.proofs.TestLaws.{passes-variable}
+use Rattle.rx_poly_laws.proofs.TestLaws.{passes-body_sum, passes-number, passes-variable}
 use Rattle.rx_cert.specs.Findings.{Said, Yes, No, Beyond}
 use Rattle.rx_cert.specs.Variables.{rows_pass}
 use Rattle.rx_solve.specs.Attempts.{where_shown}
@@ -20,15 +22,15 @@ use Rattle.rx_term.specs.declared.rule_set.SymInfo.{SymInfo}
 use Rattle.rx_pairs.specs.Columns.{at_right}
 use Rattle.rx_pairs.specs.declared.pair.Pair.{Pair}
 use Rattle.rx_rank.proofs.OwnCandidates.{IsOwnCandidate, candidates_own}
-use Rattle.rx_rank.proofs.OwnValues.{AreOwn, choice_own, filled_own, made_by_one, made_of_both, none_own, products_own, length-choice, length-filled, length-without}
+use Rattle.rx_rank.proofs.OwnValues.{All-flat_map, AreOwn, choice_own, filled_own, made_by_one, made_of_both, none_own, products_own, length-choice, length-filled, length-without}
 use Rattle.rx_rank.specs.Answers.{IsComponentFit, IsFirstFit, IsOwn, pair_passes}
 use Rattle.rx_anchors.specs.Choices.{products}
 use Rattle.rx_anchors.specs.Members.{arity_of, is_anchor, is_member, members, symbols_of}
 use Rattle.rx_anchors.specs.Values.{polynomial_of, with_choice, without_polynomials}
 use Rattle.rx_rank.specs.Candidates.{are_noted, candidate_lists, candidates}
-use Rattle.rx_rank.specs.Choices.{first_serving, from_target, hold_with, instance_on, is_ready, next_first, order_by, order_of, pairs_from, serving, without}
-use Rattle.rx_rank.specs.Ranking.{anchors, arities, component, first_fit, most_choices, others}
-use Rattle.rx_rank.specs.Tries.{kept_tried, noting}
+use Rattle.rx_rank.specs.Choices.{RankChoice, all_choices, first_serving, from_target, hold_with, instance_on, is_ready, next_first, order_by, order_of, pairs_from, plain_choice, raised_by, raised_choices, serving, without}
+use Rattle.rx_rank.specs.Ranking.{anchors, arities, component, first_fit, has_domain_row, most_choices, others, raisable}
+use Rattle.rx_rank.specs.Tries.{and_then, kept_tried, noting}
 use Rattle.rx_rank.specs.declared.fitting.Fit.{Fit}
 
 -- ---- orders
@@ -115,6 +117,32 @@ instance_made pair (Some q) x e = (q, refl, by (at_right pair q).within e) where
   by true f = cc
   by false f = cc
 
+-- with 1 added, a polynomial has the same variables
+raised_passes : (test : ℕ → Bool) (up : Bool) (q p : Body) → (raised_by up q).made ≡ Some p →
+    passes test q ≡ true → passes test p ≡ true
+raised_passes test false q p e h = let same : q ≡ p = cc in subst (λ r. passes test r ≡ true) same h
+raised_passes test true q p e h = by (is_within (body_sum q (number (pos 1)))) e where
+  by : (b : Bool) → (kept_tried b (body_sum q (number (pos 1)))).made ≡ Some p →
+      passes test p ≡ true
+  by true f =
+      let same : body_sum q (number (pos 1)) ≡ p = cc in
+      subst (λ r. passes test r ≡ true) same
+      (passes-body_sum test q (number (pos 1)) h (passes-number test (pos 1)))
+  by false f = cc
+
+-- ---- choices
+
+-- all choices are of these lists
+all_of_lists : (P : List Body → Type 0) (symbols : List ℕ) (lists : List (List Body)) →
+    All P lists → All (λ (choice : RankChoice). P choice.polys) (all_choices symbols lists)
+all_of_lists P symbols lists all =
+    let Q : RankChoice → Type 0 = λ choice. P choice.polys in
+    All-append Q (map plain_choice lists) (flat_map (raised_choices symbols) lists)
+    (All-map Q plain_choice lists all)
+    (All-flat_map (λ f p. Unit {0}) Q P (raised_choices symbols) lists all
+    (λ polys here. All-map Q (λ f. record { raised = Some f; polys = polys }) symbols
+    (λ k d h. here)))
+
 module _ (parts : RuleParts) (hypotheses : List Rule) (names : List ℕ) (c : ℕ) (pairs : List Pair)
   where
     abbrev R : ℕ → Body → Type 0
@@ -142,36 +170,39 @@ module _ (parts : RuleParts) (hypotheses : List Rule) (names : List ℕ) (c : �
         list_all (passes test) pair.right_args) h).1).1
 
     from_target_own : (f : ℕ) → is_member names c f ≡ true → (values : List (Option Body)) →
-        AreOwn R values → (mine : List Pair) (pair : Pair) → IsOwnPair pair → (p : Body)
-        → (from_target (arity_of parts.symbols f) values mine pair).made ≡ Some p → R f p
-    from_target_own f member values own mine pair own_pair p e =
+        AreOwn R values → (mine : List Pair) (pair : Pair) → IsOwnPair pair → (up : Bool) (p : Body)
+        → (from_target up (arity_of parts.symbols f) values mine pair).made ≡ Some p → R f p
+    from_target_own f member values own mine pair own_pair up p e =
         let arity = arity_of parts.symbols f in
         let first = instance_on pair (polynomial_of values pair.right.0) in
-        let two = made_of_both first.made first.noted (serving arity values mine) p e in
+        let both = and_then first (raised_by up) in
+        let two = made_of_both both.made both.noted (serving arity values mine) p e in
         let served = served_by arity values mine two.0 p two.2 in
-        let made = instance_made pair (polynomial_of values pair.right.0) two.0 two.1 in
+        let one = made_of_both first.made first.noted (raised_by up) two.0 two.1 in
+        let made = instance_made pair (polynomial_of values pair.right.0) one.0 one.1 in
         let target = own pair.right.0 made.0 made.1 in
-        let same : p ≡ (at_right pair made.0).form = sym served.1 ∙ made.2 in
         record {
           member = member;
           over = subst (λ q. uses_below arity q ≡ true) served.1 served.0;
           own_variables = λ test h g.
-              subst (λ q. passes test q ≡ true) (sym same)
+              subst (λ q. passes test q ≡ true) served.1
+              (raised_passes test up one.0 two.0 one.2
+              (subst (λ q. passes test q ≡ true) (sym made.2)
               (instance_own test pair.right_args made.0 (right_passes test pair (own_pair test g))
-              (target.own_variables test h g));
+              (target.own_variables test h g))));
         }
 
-    serving_own : (f : ℕ) → is_member names c f ≡ true → (values : List (Option Body)) (p : Body) →
-        AreOwn R values
-        → (first_serving (arity_of parts.symbols f) values (pairs_from f pairs)).made ≡ Some p →
+    serving_own : (f : ℕ) → is_member names c f ≡ true → (up : Bool) (values : List (Option Body))
+        (p : Body) → AreOwn R values
+        → (first_serving up (arity_of parts.symbols f) values (pairs_from f pairs)).made ≡ Some p →
         R f p
-    serving_own f member values p own e =
+    serving_own f member up values p own e =
         let mine = pairs_from f pairs in
         let arity = arity_of parts.symbols f in
-        made_by_one (R f) (from_target arity values mine) mine p
-        (All-weaker IsOwnPair (λ pair. (y : Body) → (from_target arity values mine pair).made ≡
+        made_by_one (R f) (from_target up arity values mine) mine p
+        (All-weaker IsOwnPair (λ pair. (y : Body) → (from_target up arity values mine pair).made ≡
         Some y → R f y)
-        (λ pair own_pair. from_target_own f member values own mine pair own_pair) mine
+        (λ pair own_pair. from_target_own f member values own mine pair own_pair up) mine
         (All-filter (λ (pair : Pair). pair.left.0 == f) IsOwnPair pairs
         (pairs_own pairs (λ test h. h)))) e
 
@@ -213,42 +244,47 @@ module _ (parts : RuleParts) (hypotheses : List Rule) (names : List ℕ) (c : �
     pub component_fit : (order : List ℕ) (fit : Fit) →
         order_of pairs (others parts hypotheses names c) ≡ Some order
         → IsFirstFit parts.symbols pairs (anchors parts hypotheses names c) order
+        (all_choices (raisable parts hypotheses names c)
         (take most_choices (products (candidate_lists names c (parts.rules ++ hypotheses)
-        (arities parts hypotheses names c)))) fit
+        (arities parts hypotheses names c))))) fit
         → IsComponentFit parts hypotheses names c pairs fit
     component_fit order fit ordered first =
         let fs = anchors parts hypotheses names c in
         let lists = λ (f : ℕ). candidates names c (parts.rules ++ hypotheses)
         (arity_of parts.symbols f) in
-        let all_choices : All (AllZip R fs) (products (map lists fs)) =
+        let own_choices : All (AllZip R fs) (products (map lists fs)) =
         products_own R lists fs (own_candidates fs
         (All-filter _ IsMember (members names c) all_members)) in
         let taken : All (AllZip R fs) (take most_choices
         (products (candidate_lists names c (parts.rules ++ hypotheses)
         (arities parts hypotheses names c)))) =
         subst (λ ls. All (AllZip R fs) (take most_choices (products ls))) (sym (mapped_twice fs))
-        (All-take (AllZip R fs) most_choices (products (map lists fs)) all_choices) in
-        let zipped : AllZip R fs first.choice =
-        All-contains (AllZip R fs) _ first.choice taken first.among in
-        let start = with_choice (without_polynomials (length parts.symbols)) fs first.choice in
+        (All-take (AllZip R fs) most_choices (products (map lists fs)) own_choices) in
+        let zipped : AllZip R fs first.choice.polys =
+        All-contains (λ (choice : RankChoice). AllZip R fs choice.polys) _ first.choice
+        (all_of_lists (AllZip R fs) (raisable parts hypotheses names c) _ taken) first.among in
+        let start = with_choice (without_polynomials (length parts.symbols)) fs first.choice.polys
+        in
+        let raised = first.choice.raised in
         let in_order : All IsMember order =
         order_has IsMember (length (others parts hypotheses names c)) pairs
         (others parts hypotheses names c) order
         (All-filter _ IsMember (members names c) all_members) ordered in
-        let Serves : ℕ → Type 0 = λ f. (vs : List (Option Body)) (p : Body) → AreOwn R vs →
-        (first_serving (arity_of parts.symbols f) vs (pairs_from f pairs)).made ≡ Some p →
+        let Serves : ℕ → Type 0 = λ f. (up : Bool) (vs : List (Option Body)) (p : Body) →
+        AreOwn R vs →
+        (first_serving up (arity_of parts.symbols f) vs (pairs_from f pairs)).made ≡ Some p →
         R f p in
         record {
           values = first.chosen.values;
           fit_is = first.chosen.fit_is;
           count =
-              length-filled parts.symbols pairs order start first.chosen.values
+              length-filled parts.symbols pairs raised order start first.chosen.values
               first.chosen.filled_is
-              ∙ length-choice (without_polynomials (length parts.symbols)) fs first.choice ∙
+              ∙ length-choice (without_polynomials (length parts.symbols)) fs first.choice.polys ∙
               length-without (length parts.symbols);
           own =
-              filled_own R parts.symbols pairs order start first.chosen.values
-              (choice_own R (without_polynomials (length parts.symbols)) fs first.choice
+              filled_own R parts.symbols pairs raised order start first.chosen.values
+              (choice_own R (without_polynomials (length parts.symbols)) fs first.choice.polys
               (none_own R (length parts.symbols)) zipped)
               (All-weaker IsMember Serves (λ f member. serving_own f member) order in_order)
               first.chosen.filled_is;
@@ -256,23 +292,26 @@ module _ (parts : RuleParts) (hypotheses : List Rule) (names : List ℕ) (c : �
 
     -- what is handed on from call to call
     pub record Handed (infos : List SymInfo)
-        (made_anchors made_others anchor_slice other_slice : List ℕ) (lists : List (List Body))
-        (noted : Bool) (order : Option (List ℕ)) : Type 0 where
+        (made_anchors made_others anchor_slice other_slice raisable_slice : List ℕ)
+        (lists : List (List Body)) (noted : Bool) (order : Option (List ℕ)) : Type 0 where
       pub infos_is : infos ≡ parts.symbols
       pub made_anchors_is : made_anchors ≡ filter (is_anchor infos hypotheses) (members names c)
       pub made_others_is : made_others ≡ filter (λ f. not (is_anchor infos hypotheses f))
           (members names c)
       pub anchor_slice_is : anchor_slice ≡ made_anchors
       pub other_slice_is : other_slice ≡ made_others
+      pub raisable_slice_is : raisable_slice ≡ cond (has_domain_row parts) other_slice []
       pub made_lists_is : lists ≡ candidate_lists names c (parts.rules ++ hypotheses)
           (map (arity_of parts.symbols) anchor_slice)
       pub made_noted_is : noted ≡ are_noted names c (parts.rules ++ hypotheses)
           (map (arity_of parts.symbols) anchor_slice)
       pub made_order_is : order ≡ order_of pairs other_slice
 
-    module _ {infos : List SymInfo} {made_anchors made_others anchor_slice other_slice : List ℕ}
+    module _ {infos : List SymInfo}
+        {made_anchors made_others anchor_slice other_slice raisable_slice : List ℕ}
         {lists : List (List Body)} {noted : Bool} {order : Option (List ℕ)}
-        (h : Handed infos made_anchors made_others anchor_slice other_slice lists noted order) where
+        (h : Handed infos made_anchors made_others anchor_slice other_slice raisable_slice lists
+        noted order) where
       anchors_are : anchor_slice ≡ anchors parts hypotheses names c
       anchors_are =
           h.anchor_slice_is ∙ h.made_anchors_is ∙
@@ -282,6 +321,10 @@ module _ (parts : RuleParts) (hypotheses : List Rule) (names : List ℕ) (c : �
       others_are =
           h.other_slice_is ∙ h.made_others_is ∙
           ap (λ s. filter (λ f. not (is_anchor s hypotheses f)) (members names c)) h.infos_is
+
+      raisables_are : raisable_slice ≡ raisable parts hypotheses names c
+      raisables_are =
+          h.raisable_slice_is ∙ ap (λ fs. cond (has_domain_row parts) fs []) others_are
 
       lists_are : lists ≡ candidate_lists names c (parts.rules ++ hypotheses)
           (arities parts hypotheses names c)
@@ -299,24 +342,33 @@ module _ (parts : RuleParts) (hypotheses : List Rule) (names : List ℕ) (c : �
       order_are = h.made_order_is ∙ ap (order_of pairs) others_are
 
       -- what comes of the choices is what comes of the component
-      pub component_is : noting noted (first_fit infos pairs anchor_slice lists order) ≡
+      pub component_is :
+          noting noted (first_fit infos pairs anchor_slice raisable_slice lists order) ≡
           component parts hypotheses names c pairs
       component_is =
-          λ j. noting (noted_are j) (first_fit (h.infos_is j) pairs (anchors_are j) (lists_are j)
-          (order_are j))
+          λ j. noting (noted_are j) (first_fit (h.infos_is j) pairs (anchors_are j)
+          (raisables_are j) (lists_are j) (order_are j))
 
       pub fits_component : (made : Option Fit) → IfSome made (λ fit. (fs : List ℕ) ×
           (order ≡ Some fs) ×
-          IsFirstFit infos pairs anchor_slice fs (take most_choices (products lists)) fit)
+          IsFirstFit infos pairs anchor_slice fs
+          (all_choices raisable_slice (take most_choices (products lists))) fit)
           → IfSome made (IsComponentFit parts hypotheses names c pairs)
       fits_component None first = tt
       fits_component (Some fit) first =
           component_fit first.0 fit (sym order_are ∙ first.1)
           (subst (λ s. IsFirstFit s pairs (anchors parts hypotheses names c) first.0
+          (all_choices (raisable parts hypotheses names c)
           (take most_choices (products (candidate_lists names c (parts.rules ++ hypotheses)
-          (arities parts hypotheses names c)))) fit) h.infos_is
+          (arities parts hypotheses names c))))) fit) h.infos_is
           (subst (λ a. IsFirstFit infos pairs a first.0
+          (all_choices (raisable parts hypotheses names c)
           (take most_choices (products (candidate_lists names c (parts.rules ++ hypotheses)
-          (arities parts hypotheses names c)))) fit) anchors_are
+          (arities parts hypotheses names c))))) fit) anchors_are
+          (subst (λ fs. IsFirstFit infos pairs anchor_slice first.0
+          (all_choices fs
+          (take most_choices (products (candidate_lists names c (parts.rules ++ hypotheses)
+          (arities parts hypotheses names c))))) fit) raisables_are
           (subst (λ ls. IsFirstFit infos pairs anchor_slice first.0
-          (take most_choices (products ls)) fit) lists_are first.2)))
+          (all_choices raisable_slice (take most_choices (products ls))) fit) lists_are
+          first.2))))

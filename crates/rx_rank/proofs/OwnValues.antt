@@ -11,7 +11,7 @@ use Rattle.rx_pairs.specs.declared.pair.Pair.{Pair}
 use Rattle.rx_anchors.specs.Choices.{products}
 use Rattle.rx_anchors.specs.Members.{arity_of}
 use Rattle.rx_anchors.specs.Values.{polynomial_of, with_choice, with_polynomial, without_polynomials}
-use Rattle.rx_rank.specs.Choices.{filled, first_serving, pairs_from}
+use Rattle.rx_rank.specs.Choices.{filled, first_serving, is_raised, pairs_from}
 use Rattle.rx_rank.specs.Tries.{made_then}
 
 -- ---- polynomials by symbol
@@ -93,7 +93,7 @@ module _ (R : ℕ → Body → Type 0) where
   choice_own values (f ∷ fs) (p ∷ ps) own rs =
       choice_own (with_polynomial values f p) fs ps (one_more_own values f p own rs.0) rs.1
 
-  All-flat_map : {A B : Type 0} (P : B → Type 0) (Q : A → Type 0) (h : A → List B) (xs : List A) →
+  pub All-flat_map : {A B : Type 0} (P : B → Type 0) (Q : A → Type 0) (h : A → List B) (xs : List A) →
       All Q xs → ((x : A) → Q x → All P (h x)) → All P (flat_map h xs)
   All-flat_map P Q h [] all each = All-nil P
   All-flat_map P Q h (x ∷ xs) all each =
@@ -120,31 +120,34 @@ module _ (R : ℕ → Body → Type 0) where
           (with_first x r f' fs choices (All-tail (AllZip R fs) ys choices all))
 
   -- those that are filled in are right where each that serves is
-  pub filled_own : (infos : List SymInfo) (pairs : List Pair) (order : List ℕ)
+  pub filled_own : (infos : List SymInfo) (pairs : List Pair) (raised : Option ℕ) (order : List ℕ)
       (values done : List (Option Body)) → AreOwn values
-      → All (λ f. (vs : List (Option Body)) (p : Body) → AreOwn vs →
-      (first_serving (arity_of infos f) vs (pairs_from f pairs)).made ≡ Some p → R f p) order
-      → (filled infos pairs values order).made ≡ Some done → AreOwn done
-  filled_own infos pairs [] values done own serves e =
+      → All (λ f. (up : Bool) (vs : List (Option Body)) (p : Body) → AreOwn vs →
+      (first_serving up (arity_of infos f) vs (pairs_from f pairs)).made ≡ Some p → R f p) order
+      → (filled infos pairs raised values order).made ≡ Some done → AreOwn done
+  filled_own infos pairs raised [] values done own serves e =
       let same : values ≡ done = cc in subst AreOwn same own
-  filled_own infos pairs (f ∷ fs) values done own serves e =
-      let Serves : ℕ → Type 0 = λ f. (vs : List (Option Body)) (p : Body) → AreOwn vs →
-      (first_serving (arity_of infos f) vs (pairs_from f pairs)).made ≡ Some p → R f p in
-      let first = first_serving (arity_of infos f) values (pairs_from f pairs) in
+  filled_own infos pairs raised (f ∷ fs) values done own serves e =
+      let Serves : ℕ → Type 0 = λ f. (up : Bool) (vs : List (Option Body)) (p : Body) →
+      AreOwn vs →
+      (first_serving up (arity_of infos f) vs (pairs_from f pairs)).made ≡ Some p → R f p in
+      let up = is_raised raised f in
+      let first = first_serving up (arity_of infos f) values (pairs_from f pairs) in
       let parts = made_of_both first.made first.noted
-      (λ p. filled infos pairs (with_polynomial values f p) fs) done e in
-      filled_own infos pairs fs (with_polynomial values f parts.0) done
-      (one_more_own values f parts.0 own (All-head Serves f fs serves values parts.0 own
+      (λ p. filled infos pairs raised (with_polynomial values f p) fs) done e in
+      filled_own infos pairs raised fs (with_polynomial values f parts.0) done
+      (one_more_own values f parts.0 own (All-head Serves f fs serves up values parts.0 own
       parts.1))
       (All-tail Serves f fs serves) parts.2
 
-pub length-filled : (infos : List SymInfo) (pairs : List Pair) (order : List ℕ)
-    (values done : List (Option Body)) → (filled infos pairs values order).made ≡ Some done →
+pub length-filled : (infos : List SymInfo) (pairs : List Pair) (raised : Option ℕ) (order : List ℕ)
+    (values done : List (Option Body)) → (filled infos pairs raised values order).made ≡ Some done →
     length done ≡ length values
-length-filled infos pairs [] values done e = let same : values ≡ done = cc in sym (ap length same)
-length-filled infos pairs (f ∷ fs) values done e =
-    let first = first_serving (arity_of infos f) values (pairs_from f pairs) in
+length-filled infos pairs raised [] values done e =
+    let same : values ≡ done = cc in sym (ap length same)
+length-filled infos pairs raised (f ∷ fs) values done e =
+    let first = first_serving (is_raised raised f) (arity_of infos f) values (pairs_from f pairs) in
     let parts = made_of_both first.made first.noted
-    (λ p. filled infos pairs (with_polynomial values f p) fs) done e in
-    length-filled infos pairs fs (with_polynomial values f parts.0) done parts.2 ∙
+    (λ p. filled infos pairs raised (with_polynomial values f p) fs) done e in
+    length-filled infos pairs raised fs (with_polynomial values f parts.0) done parts.2 ∙
     length-set values f (Some parts.0)

@@ -1,8 +1,8 @@
 -- What was noted so far, and what comes of a first part, leave it to the later parts or decide.
-use Rattle.std.proofs.Common.{◌≡◌, ◌∙◌, ap, sym, refl, Bool, true, false, ◌||◌, Option, Some, None}
+use Rattle.std.proofs.Common.{◌≡◌, ◌∙◌, ap, sym, refl, Bool, true, false, ◌||◌, Option, Some, None, List, [], ◌∷◌, ◌++◌}
 use Rattle.std.specs.Option.{is_some, option_map}
 use Rattle.rx_plain.proofs.Booleans.{or_assoc, or_false}
-use Rattle.rx_solve.specs.Attempts.{Tried, made_or}
+use Rattle.rx_solve.specs.Attempts.{Tried, first_applying, made_or}
 use Rattle.rx_rank.specs.Tries.{made_then, noting}
 
 -- what was noted twice
@@ -53,3 +53,24 @@ pub decided : {A B : Type 0} (view : A → B) (noted : Bool) (o : Option A) (mor
     noting noted (made_or (option_map view o) more later)
 decided view noted None more later e = cc
 decided view noted (Some x) more later e = refl
+
+-- what comes of some and then of others
+pub first_append : {A : Type 0} (ts us : List (Tried A)) → first_applying (ts ++ us) ≡
+    made_or (first_applying ts).made (first_applying ts).noted (first_applying us)
+first_append [] us = refl
+first_append {A} (t ∷ ts) us =
+    ap (made_or t.made t.noted) (first_append ts us) ∙ by t.made t.noted (first_applying ts)
+  where
+    by : (made : Option A) (noted : Bool) (later : Tried A) →
+        made_or made noted (made_or later.made later.noted (first_applying us)) ≡
+        made_or (made_or made noted later).made (made_or made noted later).noted
+        (first_applying us)
+    by (Some x) noted later = refl
+    by None noted later = again later.made later.noted where
+      again : (made : Option A) (more : Bool) →
+          made_or None noted (made_or made more (first_applying us)) ≡
+          made_or made (noted || more) (first_applying us)
+      again (Some x) more = refl
+      again None more =
+          ap (λ n. record { made = (first_applying us).made; noted = n })
+          (sym (or_assoc noted more (first_applying us).noted))

@@ -24,7 +24,7 @@ use Rattle.rx_poly.specs.Variables.{uses_below}
 use Rattle.rx_anchors.specs.Members.{arity_of, is_member}
 use Rattle.rx_anchors.specs.Values.{polynomial_of, with_choice, without_polynomials}
 use Rattle.rx_rank.specs.Candidates.{with_candidate}
-use Rattle.rx_rank.specs.Choices.{falls_by, filled, holds_by, is_yes}
+use Rattle.rx_rank.specs.Choices.{RankChoice, falls_by, filled, holds_by, is_yes}
 use Rattle.rx_rank.specs.declared.attempt.Attempt.{Attempt}
 use Rattle.rx_rank.specs.declared.attempt.Finding.{Finding}
 use Rattle.rx_rank.specs.declared.attempt.Finding.TheVariants as findings
@@ -134,16 +134,17 @@ pub record IsFit (values : List (Option Body)) (pairs : List Pair) (fit : Fit) :
 
 -- it is that of a choice
 pub record IsChosen (infos : List SymInfo) (pairs : List Pair) (anchors order : List ℕ)
-    (choice : List Body) (fit : Fit) : Type 0 where
+    (choice : RankChoice) (fit : Fit) : Type 0 where
   pub values : List (Option Body)
-  pub filled_is : (filled infos pairs (with_choice (without_polynomials (length infos)) anchors
-      choice) order).made ≡ Some values
+  pub filled_is : (filled infos pairs choice.raised
+      (with_choice (without_polynomials (length infos)) anchors choice.polys) order).made ≡
+      Some values
   pub fit_is : IsFit values pairs fit
 
 -- that of one of the choices
 pub record IsFirstFit (infos : List SymInfo) (pairs : List Pair) (anchors order : List ℕ)
-    (choices : List (List Body)) (fit : Fit) : Type 0 where
-  pub choice : List Body
+    (choices : List RankChoice) (fit : Fit) : Type 0 where
+  pub choice : RankChoice
   pub among : Contains choices choice
   pub chosen : IsChosen infos pairs anchors order choice fit
 

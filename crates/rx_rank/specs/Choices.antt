@@ -1,9 +1,12 @@
 -- What comes of a choice of candidates for the anchors of a component: the other symbols get their
--- polynomials from those that their pairs lead to. The choice is fit where all pairs hold and one
--- falls; those that don't fall stay open.
-use Rattle.std.specs.Prelude.{ℕ, zero, suc, ◌==◌, Bool, true, false, not, if◌then◌else◌, Option, Some, None, List, [], ◌∷◌, length, map}
-use Rattle.std.specs.List.{filter, find, list_all, list_any}
-use Rattle.std.specs.Option.{option_map}
+-- polynomials from those that their pairs lead to, one of them with 1 added if it is raised. The
+-- choice is fit where all pairs hold and one falls; those that don't fall stay open.
+use Rattle.std.specs.Prelude.{ℕ, zero, suc, ◌==◌, Bool, true, false, not, pos, if◌then◌else◌, Option, Some, None, List, [], ◌∷◌, ◌++◌, length, map}
+use Rattle.std.specs.List.{filter, find, flat_map, list_all, list_any}
+use Rattle.std.specs.Option.{option_map, option_map_or}
+use Rattle.rx_plain.specs.Formed.{kept}
+use Rattle.rx_poly.specs.Constants.{number}
+use Rattle.rx_poly.specs.Limits.{body_sum, is_within}
 use Rattle.rx_poly.specs.Variables.{uses_below}
 use Rattle.rx_poly.specs.declared.body.Body.{Body}
 use Rattle.rx_cert.specs.Findings.{Said, Yes, No, Beyond, and_also}
@@ -79,21 +82,33 @@ abbrev pub instance_on : Pair → Option Body → Tried Body
 instance_on pair None = fails
 instance_on pair (Some q) = formed_tried (at_right pair q)
 
-abbrev pub from_target : ℕ → List (Option Body) → List Pair → Pair → Tried Body
-from_target arity values mine pair =
-    and_then (instance_on pair (polynomial_of values pair.right.0)) (serving arity values mine)
+-- a polynomial, and 1 more where its symbol is raised
+abbrev pub raised_by : Bool → Body → Tried Body
+raised_by false p = applies p
+raised_by true p = formed_tried (kept is_within (body_sum p (number (pos 1))))
+
+abbrev pub from_target : Bool → ℕ → List (Option Body) → List Pair → Pair → Tried Body
+from_target raised arity values mine pair =
+    and_then (and_then (instance_on pair (polynomial_of values pair.right.0)) (raised_by raised))
+    (serving arity values mine)
 
 -- the first that serves, in the order of the symbol's pairs
-abbrev pub first_serving : ℕ → List (Option Body) → List Pair → Tried Body
-first_serving arity values mine = first_applying (map (from_target arity values mine) mine)
+abbrev pub first_serving : Bool → ℕ → List (Option Body) → List Pair → Tried Body
+first_serving raised arity values mine =
+    first_applying (map (from_target raised arity values mine) mine)
+
+-- the symbol is the one that is raised, if one is
+abbrev pub is_raised : Option ℕ → ℕ → Bool
+is_raised raised f = option_map_or (λ g. g == f) raised false
 
 -- the polynomials with those of the symbols in order
-abbrev pub filled : List SymInfo → List Pair → List (Option Body) → List ℕ →
+abbrev pub filled : List SymInfo → List Pair → Option ℕ → List (Option Body) → List ℕ →
     Tried (List (Option Body))
-filled infos pairs values [] = applies values
-filled infos pairs values (f ∷ fs) =
-    and_then (first_serving (arity_of infos f) values (pairs_from f pairs))
-    (λ p. filled infos pairs (with_polynomial values f p) fs)
+filled infos pairs raised values [] = applies values
+filled infos pairs raised values (f ∷ fs) =
+    and_then
+    (first_serving (is_raised raised f) (arity_of infos f) values (pairs_from f pairs))
+    (λ p. filled infos pairs raised (with_polynomial values f p) fs)
 
 -- ---- a choice
 
@@ -129,8 +144,24 @@ falling values pairs = record {
 abbrev pub fitting : List Pair → List (Option Body) → Tried (List Pair)
 fitting pairs values = if_shown (all_hold values pairs) (falling values pairs)
 
+-- the candidates for the anchors, and which other symbol is raised, if one is
+pub record RankChoice : Type 0 where
+  pub raised : Option ℕ
+  pub polys : List Body
+
 -- what comes of a choice
-abbrev pub choosing : List SymInfo → List Pair → List ℕ → List ℕ → List Body → Tried (List Pair)
+abbrev pub choosing : List SymInfo → List Pair → List ℕ → List ℕ → RankChoice → Tried (List Pair)
 choosing infos pairs anchors order choice =
-    and_then (filled infos pairs (with_choice (without_polynomials (length infos)) anchors choice)
-    order) (fitting pairs)
+    and_then (filled infos pairs choice.raised
+    (with_choice (without_polynomials (length infos)) anchors choice.polys) order) (fitting pairs)
+
+-- the choices of these candidates: first as they are, and then each with one of those symbols raised
+abbrev pub plain_choice : List Body → RankChoice
+plain_choice polys = record { raised = None; polys = polys }
+
+abbrev pub raised_choices : List ℕ → List Body → List RankChoice
+raised_choices symbols polys = map (λ f. record { raised = Some f; polys = polys }) symbols
+
+abbrev pub all_choices : List ℕ → List (List Body) → List RankChoice
+all_choices symbols lists =
+    map plain_choice lists ++ flat_map (raised_choices symbols) lists

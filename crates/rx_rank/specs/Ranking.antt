@@ -1,21 +1,23 @@
 -- The ranking: up to seven rounds, each of a column of heights and a column of polynomials, and a
 -- last column of heights. By heights the pairs between components of the graph of open pairs fall
 -- and are closed. For polynomials each component with an open pair takes its first fit choice, and
--- the pairs that fall are closed.
-use Rattle.std.specs.Prelude.{ℕ, zero, suc, not, Option, Some, None, List, [], ◌∷◌, ◌++◌, length, map, take}
-use Rattle.std.specs.List.{filter}
+-- the pairs that fall are closed. The pairs are those inside the domains.
+use Rattle.std.specs.Prelude.{ℕ, zero, suc, Bool, not, if◌then◌else◌, Option, Some, None, List, [], ◌∷◌, ◌++◌, length, map, take}
+use Rattle.std.specs.List.{filter, list_any}
+use Rattle.rx_poly.specs.Normal.{is_empty}
 use Rattle.rx_poly.specs.declared.body.Body.{Body}
 use Rattle.rx_cert.specs.Findings.{Said}
-use Rattle.rx_solve.specs.Attempts.{Tried, applies, fails, first_applying}
+use Rattle.rx_solve.specs.Attempts.{Tried, applies, beyond, fails, first_applying}
 use Rattle.rx_term.specs.declared.rule.Rule.{Rule}
 use Rattle.rx_term.specs.declared.rule_set.RuleParts.{RuleParts}
 use Rattle.rx_term.specs.declared.rule_set.SymInfo.{SymInfo}
-use Rattle.rx_pairs.specs.Listed.{pairs_by_all}
+use Rattle.rx_pairs.specs.Inside.{listing}
+use Rattle.rx_pairs.specs.declared.listing.Listing.{Listing}
 use Rattle.rx_pairs.specs.declared.pair.Pair.{Pair}
 use Rattle.rx_anchors.specs.Choices.{products}
 use Rattle.rx_anchors.specs.Members.{arity_of, is_anchor, members, symbols_of}
 use Rattle.rx_rank.specs.Candidates.{are_noted, candidate_lists}
-use Rattle.rx_rank.specs.Choices.{choosing, order_of}
+use Rattle.rx_rank.specs.Choices.{all_choices, choosing, order_of}
 use Rattle.rx_rank.specs.Components.{inside, representatives_of, pairs_in}
 use Rattle.rx_rank.specs.Tries.{all_made, and_then, noting, tried_said}
 
@@ -23,13 +25,18 @@ use Rattle.rx_rank.specs.Tries.{all_made, and_then, noting, tried_said}
 abbrev pub most_choices : ℕ
 most_choices = 4096
 
--- the first choice that is fit, in lexicographic order; none is tried where the other symbols have
--- no order
-abbrev pub first_fit : List SymInfo → List Pair → List ℕ → List (List Body) → Option (List ℕ) →
-    Tried (List Pair)
-first_fit infos pairs anchors lists None = fails
-first_fit infos pairs anchors lists (Some order) =
-    first_applying (map (choosing infos pairs anchors order) (take most_choices (products lists)))
+-- a symbol has a domain row
+abbrev pub has_domain_row : RuleParts → Bool
+has_domain_row parts = list_any (λ rows. not (is_empty rows)) parts.domains
+
+-- the first choice that is fit, in lexicographic order, first with no symbol raised and then with
+-- each of those; none is tried where the other symbols have no order
+abbrev pub first_fit : List SymInfo → List Pair → List ℕ → List ℕ → List (List Body) →
+    Option (List ℕ) → Tried (List Pair)
+first_fit infos pairs anchors raisable lists None = fails
+first_fit infos pairs anchors raisable lists (Some order) =
+    first_applying (map (choosing infos pairs anchors order)
+    (all_choices raisable (take most_choices (products lists))))
 
 module _ (parts : RuleParts) (hypotheses : List Rule) where
   -- the anchors of the component with that name, and its other symbols
@@ -43,11 +50,15 @@ module _ (parts : RuleParts) (hypotheses : List Rule) where
   abbrev pub arities : List ℕ → ℕ → List ℕ
   arities names c = map (arity_of parts.symbols) (anchors names c)
 
+  -- the symbols that may be raised: the others, by number, where there is a domain row
+  abbrev pub raisable : List ℕ → ℕ → List ℕ
+  raisable names c = if has_domain_row parts then others names c else []
+
   -- what comes of the component with its pairs: all candidates are made first
   abbrev pub component : List ℕ → ℕ → List Pair → Tried (List Pair)
   component names c pairs =
       noting (are_noted names c (parts.rules ++ hypotheses) (arities names c))
-      (first_fit parts.symbols pairs (anchors names c)
+      (first_fit parts.symbols pairs (anchors names c) (raisable names c)
       (candidate_lists names c (parts.rules ++ hypotheses) (arities names c))
       (order_of pairs (others names c)))
 
@@ -78,9 +89,13 @@ module _ (parts : RuleParts) (hypotheses : List Rule) where
       unless_closed (inside (length parts.symbols) pairs)
       (and_then (polynomials (inside (length parts.symbols) pairs)) (ranking_from n))
 
+  -- of pairs that are listed; where these aren't all, nothing is found because of the limits
+  abbrev pub ranking_of : Listing → Tried (Unit {0})
+  ranking_of listed = if listed.whole then ranking_from 7 listed.pairs else beyond
+
   -- whether there is a table, with what was noted on the way
   abbrev pub ranking : Tried (Unit {0})
-  ranking = ranking_from 7 (pairs_by_all (parts.rules ++ hypotheses))
+  ranking = ranking_of (listing parts (parts.rules ++ hypotheses))
 
   -- there is one; or there is none and nothing passed the limits; or there is none and something
   -- did

@@ -1,11 +1,15 @@
 //! One component of the graph of open pairs.
-ghost use Rattle.std.specs.Prelude.{◌≡◌, ◌++◌, ℕ, IfOk, IfSome, List, Some, map, take};
+ghost use Rattle.std.specs.Prelude.{◌≡◌, ◌++◌, ℕ, IfOk, IfSome, List, [], Some, if◌then◌else◌};
+ghost use Rattle.std.specs.Prelude.{map, not, take};
+ghost use Rattle.std.specs.List.{list_any};
 ghost use Rattle.std.specs.Option.{option_map};
+ghost use Rattle.rx_poly.specs.Normal.{is_empty};
 ghost use Rattle.rx_anchors.specs.Choices.{lists_in, products};
 ghost use Rattle.rx_anchors.specs.Members.{arity_of};
 ghost use Rattle.rx_rank.specs.Answers.{IsComponentFit, IsFirstFit, pairs_at, still_open, tried_as};
 ghost use Rattle.rx_rank.specs.Candidates.{are_noted, candidate_lists};
-ghost use Rattle.rx_rank.specs.Ranking.{component, first_fit, most_choices};
+ghost use Rattle.rx_rank.specs.Choices.{all_choices};
+ghost use Rattle.rx_rank.specs.Ranking.{component, first_fit, has_domain_row, most_choices};
 ghost use Rattle.rx_rank.specs.Tries.{noting};
 ghost use Rattle.rx_solve.specs.Answers.{IsSolver};
 
@@ -21,9 +25,45 @@ use rx_fm::FmEnd;
 use rx_pairs::Pair;
 use rx_plain::NoMemory;
 use rx_poly::Poly;
-use rx_row::Constraint;
+use rx_row::{Constraint, Row};
 use rx_term::{Rule, RuleParts, SymInfo};
 use std::alloc::Global;
+
+/// Whether there is a row.
+fn has_row(rows: &[Row]) -> bool
+    ensures { result ≡ not (is_empty rows.now) }
+{
+    match rows.first() {
+        Some(_) => true,
+        None => false,
+    }
+}
+
+/// Whether there is a row in one of these.
+fn have_row(domains: &[Constraint]) -> bool
+    ensures { result ≡ list_any (λ rows. not (is_empty rows)) domains.now }
+{
+    for rows in domains {
+        if has_row(rows.rows()) {
+            return true;
+        }
+    }
+    false
+}
+
+/// Whether a symbol has a domain row.
+fn has_domain_row(parts: &RuleParts) -> bool
+    ensures { result ≡ has_domain_row parts.now }
+{
+    have_row(parts.domains.as_slice())
+}
+
+/// The symbols that may be raised: the others, where a symbol has a domain row.
+fn raisable_of<'a>(parts: &RuleParts, others: &'a [u32]) -> &'a [u32]
+    ensures { result.now ≡ (if has_domain_row parts.now then others.now else []) }
+{
+    if has_domain_row(parts) { others } else { &[] }
+}
 
 /// The first choice of candidates that is fit. What the memo has of the pairs is used, and it keeps
 /// what is found out of them.
@@ -32,6 +72,7 @@ fn first_fit_with<S: FnMut(&Constraint) -> Result<Option<Cert>, FmEnd>>(
     infos: &[SymInfo],
     pairs: &[&Pair],
     anchors: &[u32],
+    raisable: &[u32],
     lists: &[Vec<Poly>],
     order: &[u32],
     memo: &mut PairMemo,
@@ -41,11 +82,11 @@ fn first_fit_with<S: FnMut(&Constraint) -> Result<Option<Cert>, FmEnd>>(
     ensures solver { IsSolver S.FnMut solve.new }
     ensures tried { IfOk result (λ t. tried_as
         (λ fit. still_open (pairs_at pairs.now) fit.falls.items) t ≡
-        first_fit infos.now (pairs_at pairs.now) anchors.now (lists_in lists.now)
+        first_fit infos.now (pairs_at pairs.now) anchors.now raisable.now (lists_in lists.now)
         (Some order.now)) }
     ensures fit { IfOk result (λ t. IfSome t.made
         (IsFirstFit infos.now (pairs_at pairs.now) anchors.now order.now
-        (take most_choices (products (lists_in lists.now))))) }
+        (all_choices raisable.now (take most_choices (products (lists_in lists.now)))))) }
 {
     let mut known = memo.take(alloc, pairs)?;
     let fit = first_fit(
@@ -53,6 +94,7 @@ fn first_fit_with<S: FnMut(&Constraint) -> Result<Option<Cert>, FmEnd>>(
         infos,
         known.as_mut_slice(),
         anchors,
+        raisable,
         lists,
         order,
         solve,
@@ -89,6 +131,7 @@ fn fit_in_order<S: FnMut(&Constraint) -> Result<Option<Cert>, FmEnd>>(
     infos: &[SymInfo],
     pairs: &[&Pair],
     anchors: &[u32],
+    raisable: &[u32],
     all: CandidateLists,
     order: Option<Vec<u32>>,
     memo: &mut PairMemo,
@@ -98,12 +141,13 @@ fn fit_in_order<S: FnMut(&Constraint) -> Result<Option<Cert>, FmEnd>>(
     ensures solver { IsSolver S.FnMut solve.new }
     ensures tried { IfOk result (λ t. tried_as
         (λ fit. still_open (pairs_at pairs.now) fit.falls.items) t ≡
-        noting all.noted (first_fit infos.now (pairs_at pairs.now) anchors.now
+        noting all.noted (first_fit infos.now (pairs_at pairs.now) anchors.now raisable.now
         (lists_in all.lists.items) (option_map (λ v. v.items) order))) }
     ensures fit { IfOk result (λ t. IfSome t.made (λ fit. (fs : List ℕ) ×
         (option_map (λ v. v.items) order ≡ Some fs) ×
         IsFirstFit infos.now (pairs_at pairs.now) anchors.now fs
-        (take most_choices (products (lists_in all.lists.items))) fit)) }
+        (all_choices raisable.now (take most_choices (products (lists_in all.lists.items))))
+        fit)) }
 {
     let noted = all.noted;
     let Some(order) = order else {
@@ -111,13 +155,16 @@ fn fit_in_order<S: FnMut(&Constraint) -> Result<Option<Cert>, FmEnd>>(
     };
     let lists = all.lists.as_slice();
     let others = order.as_slice();
-    let fit = first_fit_with(alloc, infos, pairs, anchors, lists, others, memo, solve)?;
+    let fit = first_fit_with(
+        alloc, infos, pairs, anchors, raisable, lists, others, memo, solve,
+    )?;
     Ok(noted_before(noted, fit))
 }
 
 /// The first fit choice of the component with that name, whose pairs these are: the polynomials of
 /// its symbols, with the certificates by which all pairs hold and some fall. All candidates are
-/// made first.
+/// made first. Where a symbol has a domain row and no choice is fit, the choices are tried once
+/// more, each with one symbol raised that is no anchor.
 pub fn fit_component<S: FnMut(&Constraint) -> Result<Option<Cert>, FmEnd>>(
     alloc: Global,
     parts: &RuleParts,
@@ -140,6 +187,10 @@ pub fn fit_component<S: FnMut(&Constraint) -> Result<Option<Cert>, FmEnd>>(
     let members = members_of(alloc, infos, hypotheses, names, name)?;
     let anchors = members.anchors.as_slice();
     let all = lists_of(alloc, parts, hypotheses, names, name, anchors)?;
-    let order = order_of(alloc, pairs, members.others.as_slice())?;
-    fit_in_order(alloc, infos, pairs, anchors, all, order, memo, solve)
+    let others = members.others.as_slice();
+    let order = order_of(alloc, pairs, others)?;
+    let raisable = raisable_of(parts, others);
+    fit_in_order(
+        alloc, infos, pairs, anchors, raisable, all, order, memo, solve,
+    )
 }

@@ -1,12 +1,12 @@
 //! The polynomials of the symbols that are no anchors: each takes one from those that its pairs
-//! lead to.
+//! lead to, with 1 added if it is raised.
 ghost use Rattle.std.specs.Prelude.{◌≡◌, ◌==◌, IfOk, Some, if◌then◌else◌};
 ghost use Rattle.rx_cert.specs.Findings.{Yes};
 ghost use Rattle.rx_rank.specs.Answers.{found, tried, tried_as};
 ghost use Rattle.rx_anchors.specs.Members.{arity_of};
 ghost use Rattle.rx_anchors.specs.Values.{polynomial_of};
-ghost use Rattle.rx_rank.specs.Choices.{filled, first_serving, hold_with, instance_on};
-ghost use Rattle.rx_rank.specs.Choices.{pairs_from, serving, tested};
+ghost use Rattle.rx_rank.specs.Choices.{filled, first_serving, hold_with, instance_on, is_raised};
+ghost use Rattle.rx_rank.specs.Choices.{pairs_from, raised_by, serving, tested};
 ghost use Rattle.rx_rank.specs.PairTests.{holds};
 ghost use Rattle.rx_rank.specs.Tries.{and_then};
 ghost use Rattle.rx_solve.specs.Answers.{IsSolver};
@@ -148,6 +148,63 @@ fn instance_from(
     }
 }
 
+/// The polynomial, and 1 more where its symbol is raised.
+fn raised_by(alloc: Global, raised: bool, poly: Poly) -> Result<Attempt<Poly>, NoMemory>
+    ensures { IfOk result (λ t. tried t ≡ raised_by raised poly) }
+{
+    if !raised {
+        return Ok(Attempt {
+            made: Some(poly),
+            noted: false,
+        });
+    }
+    let one = Poly::constant(alloc, 1)?;
+    match poly.add(alloc, &one) {
+        Ok(sum) => Ok(Attempt {
+            made: Some(sum),
+            noted: false,
+        }),
+        Err(PolyEnd::Large) => Ok(Attempt {
+            made: None,
+            noted: true,
+        }),
+        Err(PolyEnd::NoMemory) => Err(NoMemory),
+    }
+}
+
+/// The same of an instance, where there is one.
+fn raised_instance(
+    alloc: Global,
+    raised: bool,
+    instance: Attempt<Poly>,
+) -> Result<Attempt<Poly>, NoMemory>
+    ensures { IfOk result (λ t. tried t ≡ and_then (tried instance) (raised_by raised)) }
+{
+    let noted = instance.noted;
+    let Some(poly) = instance.made else {
+        return Ok(Attempt { made: None, noted });
+    };
+    let attempt = raised_by(alloc, raised, poly)?;
+    Ok(noted_before(noted, attempt))
+}
+
+/// What the symbol takes from the polynomial that the pair leads to, where this symbol is the
+/// pair's left one: the instance, and 1 more where the symbol is raised.
+fn target_of(
+    alloc: Global,
+    raised: bool,
+    values: &[Option<Poly>],
+    symbol: u32,
+    pair: &Pair,
+) -> Result<Attempt<Poly>, NoMemory>
+    ensures { IfOk result (λ t. tried t ≡ (if pair.now.left.0 == symbol then
+        and_then (instance_on pair.now (polynomial_of values.now pair.now.right.0))
+        (raised_by raised) else fails)) }
+{
+    let instance = instance_from(alloc, values, symbol, pair)?;
+    raised_instance(alloc, raised, instance)
+}
+
 /// The instance, where there is one and it serves.
 fn serving_instance<S: FnMut(&Constraint) -> Result<Option<Cert>, FmEnd>>(
     alloc: Global,
@@ -172,9 +229,11 @@ fn serving_instance<S: FnMut(&Constraint) -> Result<Option<Cert>, FmEnd>>(
     Ok(noted_before(noted, attempt))
 }
 
-/// The first instance that serves, in the order of the symbol's pairs.
+/// The first instance that serves, in the order of the symbol's pairs, each with 1 added where the
+/// symbol is raised.
 fn first_serving<S: FnMut(&Constraint) -> Result<Option<Cert>, FmEnd>>(
     alloc: Global,
+    raised: bool,
     arity: u32,
     values: &[Option<Poly>],
     symbol: u32,
@@ -185,11 +244,11 @@ fn first_serving<S: FnMut(&Constraint) -> Result<Option<Cert>, FmEnd>>(
     ensures solver { IsSolver S.FnMut solve.new }
     ensures pairs { pairs.new ≡ pairs.old }
     ensures tried { IfOk result (λ t. tried t ≡
-        first_serving arity values.now (pairs_from symbol pairs.old)) }
+        first_serving raised arity values.now (pairs_from symbol pairs.old)) }
 {
     let mut noted = false;
     for at in 0..pairs.len() {
-        let instance = instance_from(alloc, values, symbol, pairs[at].pair())?;
+        let instance = target_of(alloc, raised, values, symbol, pairs[at].pair())?;
         let attempt = serving_instance(alloc, arity, values, symbol, pairs, instance, solve)?;
         noted |= attempt.noted;
         if attempt.made.is_some() {
@@ -202,11 +261,23 @@ fn first_serving<S: FnMut(&Constraint) -> Result<Option<Cert>, FmEnd>>(
     Ok(Attempt { made: None, noted })
 }
 
-/// The polynomials with those of the symbols in order, up to the first without one.
+/// Whether the symbol is the one that is raised, if one is.
+fn is_raised(raised: Option<u32>, symbol: u32) -> bool
+    ensures { result ≡ is_raised raised symbol }
+{
+    match raised {
+        Some(other) => other == symbol,
+        None => false,
+    }
+}
+
+/// The polynomials with those of the symbols in order, up to the first without one. One of these
+/// symbols may be raised.
 pub(crate) fn filled<S: FnMut(&Constraint) -> Result<Option<Cert>, FmEnd>>(
     alloc: Global,
     infos: &[SymInfo],
     pairs: &mut [KnownPair],
+    raised: Option<u32>,
     start: Vec<Option<Poly>>,
     order: &[u32],
     solve: &mut S,
@@ -215,13 +286,14 @@ pub(crate) fn filled<S: FnMut(&Constraint) -> Result<Option<Cert>, FmEnd>>(
     ensures solver { IsSolver S.FnMut solve.new }
     ensures pairs { pairs.new ≡ pairs.old }
     ensures tried { IfOk result (λ t. tried_as (λ v. v.items) t ≡
-        filled infos.now pairs.old start.items order.now) }
+        filled infos.now pairs.old raised start.items order.now) }
 {
     let mut values = start;
     let mut noted = false;
     for symbol in order {
         let arity = arity_of(infos, *symbol);
-        let attempt = first_serving(alloc, arity, values.as_slice(), *symbol, pairs, solve)?;
+        let more = is_raised(raised, *symbol);
+        let attempt = first_serving(alloc, more, arity, values.as_slice(), *symbol, pairs, solve)?;
         noted |= attempt.noted;
         let Some(poly) = attempt.made else {
             return Ok(Attempt { made: None, noted });

@@ -1,112 +1,84 @@
--- What comes of the choice at hand is that of one of them.
-use Rattle.std.proofs.Common.{◌≡◌, ◌∙◌, ◌<◌, ◌≤◌, ap, sym, subst, arith, IfSome, List, None, Some, slice_get, take}
+-- The plain choices come first, and where none is fit those with a raised symbol.
+use Rattle.std.proofs.Common.{◌≡◌, ◌∙◌, ap, sym, subst, IfSome, List, [], map, take}
+use Rattle.std.specs.List.{flat_map}
 use Rattle.std.specs.Option.{option_map}
 use Rattle.rx_pairs.specs.declared.pair.Pair.{Pair}
-use Rattle.rx_term.proofs.Places.{at_place}
+use Rattle.rx_solve.specs.Attempts.{first_applying}
 use Rattle.rx_anchors.specs.Choices.{lists_in, products}
-use Rattle.rx_anchors.specs.Values.{polys_at}
-use Rattle.rx_rank.specs.Answers.{IsChosen, still_open, tried_as}
-use Rattle.rx_rank.specs.Choices.{choosing}
+use Rattle.rx_rank.specs.Answers.{IsFirstFit, still_open, tried_as}
+use Rattle.rx_rank.specs.Choices.{all_choices, choosing, plain_choice, raised_choices}
 use Rattle.rx_rank.specs.Ranking.{most_choices}
 use Rattle.rx_rank.specs.declared.fitting.Fit.{Fit}
-use Rattle.rx_rank.proofs.Choosing.{choice_fits, first_of, fit_among, later_choices, no_choice, taken_past, taken_place}
+use Rattle.rx_rank.proofs.Choosing.{among_plain, among_raised, empty_list, fit_among_more, plain_alone, plain_fits, raised_decide}
 use Rattle.rx_rank.proofs.choice.first_fit.Goals as goal
-
-pub returns-in-None-clause-tried : goal.returns-in-None-clause-tried
-returns-in-None-clause-tried g c =
-    let a = c.args in
-    let all = take most_choices (products (lists_in a.lists.now)) in
-    let at = c.loop-at.at in
-    let below : at < most_choices = omega (arith, c.loop-at-test.true) in
-    let none : slice_get all at ≡ None =
-    taken_place most_choices (products (lists_in a.lists.now)) at below
-    ∙ sym (sym (ap (option_map (λ v. polys_at v.items)) c.in-None.is) ∙ c.in_ok-choice.ensures) in
-    no_choice a.infos.now a.pairs.now a.anchors.now a.order.now all at c.loop-at.noted
-    (first_of a.infos.now a.pairs.now a.anchors.now a.order.now all all)
-    c.loop-at.invariant.decides none
-
-pub returns-clause-tried : goal.returns-clause-tried
-returns-clause-tried g c =
-    let a = c.args in
-    let all = take most_choices (products (lists_in a.lists.now)) in
-    let at = c.loop-at.at in
-    let past : most_choices ≤ at = omega (arith, c.loop-at-test.false) in
-    no_choice a.infos.now a.pairs.now a.anchors.now a.order.now all at c.loop-at.noted
-    (first_of a.infos.now a.pairs.now a.anchors.now a.order.now all all)
-    c.loop-at.invariant.decides (taken_past most_choices (products (lists_in a.lists.now)) at past)
-
-pub returns-then-is_some-clause-fit : goal.returns-then-is_some-clause-fit
-returns-then-is_some-clause-fit g c =
-    let a = c.args in
-    let all = take most_choices (products (lists_in a.lists.now)) in
-    let at = c.loop-at.at in
-    let made = c.in_ok-attempt.attempt.made in
-    let choice = polys_at c.in-Some.choice.items in
-    let below : at < most_choices = omega (arith, c.loop-at-test.true) in
-    let there : slice_get all at ≡ Some choice =
-    taken_place most_choices (products (lists_in a.lists.now)) at below
-    ∙ sym (sym (ap (option_map (λ v. polys_at v.items)) c.in-Some.is) ∙ c.in_ok-choice.ensures) in
-    let here = subst (λ qs. IfSome made (IsChosen a.infos.now qs a.anchors.now a.order.now
-    (polys_at c.as_slice-chosen.result.now))) c.loop-at.invariant.same c.in_ok-attempt.ensures.fit in
-    let chosen = subst (λ ps. IfSome made (IsChosen a.infos.now a.pairs.now a.anchors.now
-    a.order.now (polys_at ps))) c.as_slice-chosen.ensures.value here in
-    fit_among a.infos.now a.pairs.now a.anchors.now a.order.now all choice made
-    (at_place all at choice there) chosen
 
 pub returns-then-is_some-clause-tried : goal.returns-then-is_some-clause-tried
 returns-then-is_some-clause-tried g c =
     let a = c.args in
     let all = take most_choices (products (lists_in a.lists.now)) in
-    let at = c.loop-at.at in
-    let made = c.in_ok-attempt.attempt.made in
-    let choice = polys_at c.in-Some.choice.items in
-    let below : at < most_choices = omega (arith, c.loop-at-test.true) in
-    let there : slice_get all at ≡ Some choice =
-    taken_place most_choices (products (lists_in a.lists.now)) at below
-    ∙ sym (sym (ap (option_map (λ v. polys_at v.items)) c.in-Some.is) ∙ c.in_ok-choice.ensures) in
-    let view : Fit → List Pair = λ fit. still_open a.pairs.now fit.falls.items in
-    let before = c.loop-at.noted in
-    let more = c.in_ok-attempt.attempt.noted in
-    let tried : record { made = option_map view made; noted = more } ≡
-    choosing a.infos.now a.pairs.now a.anchors.now a.order.now choice =
-    subst (λ ps. record { made = option_map view made; noted = more } ≡
-    choosing a.infos.now a.pairs.now a.anchors.now a.order.now (polys_at ps))
-    c.as_slice-chosen.ensures.value
-    (subst (λ (qs : List Pair). tried_as (λ fit. still_open qs fit.falls.items)
-    c.in_ok-attempt.attempt ≡ choosing a.infos.now qs a.anchors.now a.order.now
-    (polys_at c.as_slice-chosen.result.now)) c.loop-at.invariant.same c.in_ok-attempt.ensures.tried) in
-    choice_fits a.infos.now a.pairs.now a.anchors.now a.order.now all at before
-    (first_of a.infos.now a.pairs.now a.anchors.now a.order.now all all)
-    c.loop-at.invariant.decides choice there view made more tried
+    plain_fits a.infos.now a.pairs.now a.anchors.now a.order.now a.raisable.now all
+    (λ fit. still_open a.pairs.now fit.falls.items) c.in_ok-plain.plain.made
+    c.in_ok-plain.plain.noted c.in_ok-plain.ensures.tried
     (sym c.is_some.ensures ∙ c.if-is_some.true)
 
-pub loop-at-preserved : goal.loop-at-preserved
-loop-at-preserved g c =
+pub returns-then-is_some-clause-fit : goal.returns-then-is_some-clause-fit
+returns-then-is_some-clause-fit g c =
     let a = c.args in
     let all = take most_choices (products (lists_in a.lists.now)) in
-    let at = c.loop-at.at in
-    let made = c.in_ok-attempt.attempt.made in
-    let choice = polys_at c.in-Some.choice.items in
-    let below : at < most_choices = omega (arith, c.loop-at-test.true) in
-    let there : slice_get all at ≡ Some choice =
-    taken_place most_choices (products (lists_in a.lists.now)) at below
-    ∙ sym (sym (ap (option_map (λ v. polys_at v.items)) c.in-Some.is) ∙ c.in_ok-choice.ensures) in
+    fit_among_more a.infos.now a.pairs.now a.anchors.now a.order.now (map plain_choice all)
+    (all_choices a.raisable.now all) c.in_ok-plain.plain.made (among_plain a.raisable.now all)
+    c.in_ok-plain.ensures.fit
+
+pub returns-then-is_empty-clause-tried : goal.returns-then-is_empty-clause-tried
+returns-then-is_empty-clause-tried g c =
+    let a = c.args in
+    let all = take most_choices (products (lists_in a.lists.now)) in
+    let try_it = choosing a.infos.now a.pairs.now a.anchors.now a.order.now in
+    let empty : a.raisable.now ≡ [] =
+    empty_list a.raisable.now (sym c.is_empty.ensures ∙ c.if-is_empty.true) in
+    c.in_ok-plain.ensures.tried
+    ∙ plain_alone a.infos.now a.pairs.now a.anchors.now a.order.now all
+    ∙ ap (λ symbols. first_applying (map try_it (all_choices symbols all))) (sym empty)
+
+pub returns-then-is_empty-clause-fit : goal.returns-then-is_empty-clause-fit
+returns-then-is_empty-clause-fit g c =
+    let a = c.args in
+    let all = take most_choices (products (lists_in a.lists.now)) in
+    fit_among_more a.infos.now a.pairs.now a.anchors.now a.order.now (map plain_choice all)
+    (all_choices a.raisable.now all) c.in_ok-plain.plain.made (among_plain a.raisable.now all)
+    c.in_ok-plain.ensures.fit
+
+pub returns-clause-tried : goal.returns-clause-tried
+returns-clause-tried g c =
+    let a = c.args in
+    let all = take most_choices (products (lists_in a.lists.now)) in
     let view : Fit → List Pair = λ fit. still_open a.pairs.now fit.falls.items in
-    let before = c.loop-at.noted in
-    let more = c.in_ok-attempt.attempt.noted in
-    let tried : record { made = option_map view made; noted = more } ≡
-    choosing a.infos.now a.pairs.now a.anchors.now a.order.now choice =
-    subst (λ ps. record { made = option_map view made; noted = more } ≡
-    choosing a.infos.now a.pairs.now a.anchors.now a.order.now (polys_at ps))
-    c.as_slice-chosen.ensures.value
-    (subst (λ (qs : List Pair). tried_as (λ fit. still_open qs fit.falls.items)
-    c.in_ok-attempt.attempt ≡ choosing a.infos.now qs a.anchors.now a.order.now
-    (polys_at c.as_slice-chosen.result.now)) c.loop-at.invariant.same c.in_ok-attempt.ensures.tried) in
-    record {
-      solver = c.choosing.ensures.solver;
-      same = c.choosing.ensures.pairs ∙ c.loop-at.invariant.same;
-      decides = later_choices a.infos.now a.pairs.now a.anchors.now a.order.now all at before
-          (first_of a.infos.now a.pairs.now a.anchors.now a.order.now all all)
-          c.loop-at.invariant.decides choice there view made more tried
-          (sym c.is_some.ensures ∙ c.if-is_some.false);
-    }
+    let raised = c.in_ok-raised.raised in
+    let tried : record { made = option_map view raised.made; noted = raised.noted } ≡
+    first_applying (map (choosing a.infos.now a.pairs.now a.anchors.now a.order.now)
+    (flat_map (raised_choices a.raisable.now) all)) =
+    subst (λ (qs : List Pair). tried_as (λ fit. still_open qs fit.falls.items) raised ≡
+    first_applying (map (choosing a.infos.now qs a.anchors.now a.order.now)
+    (flat_map (raised_choices a.raisable.now) all))) c.first_plain.ensures.pairs
+    c.in_ok-raised.ensures.tried in
+    (λ j. record {
+      made = option_map view (c.noted_before.ensures.made j);
+      noted = c.noted_before.ensures.noted j;
+    })
+    ∙ raised_decide a.infos.now a.pairs.now a.anchors.now a.order.now a.raisable.now all view
+    c.in_ok-plain.plain.made c.in_ok-plain.plain.noted c.in_ok-plain.ensures.tried raised.made
+    raised.noted (sym c.is_some.ensures ∙ c.if-is_some.false) tried
+
+pub returns-clause-fit : goal.returns-clause-fit
+returns-clause-fit g c =
+    let a = c.args in
+    let all = take most_choices (products (lists_in a.lists.now)) in
+    let raised = c.in_ok-raised.raised in
+    let first = subst (λ (qs : List Pair). IfSome raised.made (IsFirstFit a.infos.now qs
+    a.anchors.now a.order.now (flat_map (raised_choices a.raisable.now) all)))
+    c.first_plain.ensures.pairs c.in_ok-raised.ensures.fit in
+    subst (λ m. IfSome m (IsFirstFit a.infos.now a.pairs.now a.anchors.now a.order.now
+    (all_choices a.raisable.now all))) (sym c.noted_before.ensures.made)
+    (fit_among_more a.infos.now a.pairs.now a.anchors.now a.order.now
+    (flat_map (raised_choices a.raisable.now) all) (all_choices a.raisable.now all) raised.made
+    (among_raised a.raisable.now all) first)

@@ -12,15 +12,16 @@ pub returns-clause-tried : goal.returns-clause-tried
 returns-clause-tried g c =
     let h : Handed c.args.parts.now c.args.hypotheses.now c.args.names.now c.args.name
     (pairs_at c.args.pairs.now) c.as_slice-infos.result.now c.in_ok-members.members.anchors.items
-    c.in_ok-members.members.others.items c.as_slice-anchors.result.now c.as_slice.result.now
-    (lists_in c.in_ok-all.all.lists.items) c.in_ok-all.all.noted
+    c.in_ok-members.members.others.items c.as_slice-anchors.result.now c.as_slice-others.result.now
+    c.raisable_of-raisable.result.now (lists_in c.in_ok-all.all.lists.items) c.in_ok-all.all.noted
     (option_map (λ v. v.items) c.in_ok-order.order) =
     record {
       infos_is = c.as_slice-infos.ensures;
       made_anchors_is = c.in_ok-members.ensures.anchors;
       made_others_is = c.in_ok-members.ensures.others;
       anchor_slice_is = c.as_slice-anchors.ensures.value;
-      other_slice_is = c.as_slice.ensures.value;
+      other_slice_is = c.as_slice-others.ensures.value;
+      raisable_slice_is = c.raisable_of-raisable.ensures;
       made_lists_is = c.in_ok-all.ensures.lists;
       made_noted_is = c.in_ok-all.ensures.noted;
       made_order_is = c.in_ok-order.ensures;
@@ -34,15 +35,16 @@ pub returns-clause-fit : goal.returns-clause-fit
 returns-clause-fit g c =
     let h : Handed c.args.parts.now c.args.hypotheses.now c.args.names.now c.args.name
     (pairs_at c.args.pairs.now) c.as_slice-infos.result.now c.in_ok-members.members.anchors.items
-    c.in_ok-members.members.others.items c.as_slice-anchors.result.now c.as_slice.result.now
-    (lists_in c.in_ok-all.all.lists.items) c.in_ok-all.all.noted
+    c.in_ok-members.members.others.items c.as_slice-anchors.result.now c.as_slice-others.result.now
+    c.raisable_of-raisable.result.now (lists_in c.in_ok-all.all.lists.items) c.in_ok-all.all.noted
     (option_map (λ v. v.items) c.in_ok-order.order) =
     record {
       infos_is = c.as_slice-infos.ensures;
       made_anchors_is = c.in_ok-members.ensures.anchors;
       made_others_is = c.in_ok-members.ensures.others;
       anchor_slice_is = c.as_slice-anchors.ensures.value;
-      other_slice_is = c.as_slice.ensures.value;
+      other_slice_is = c.as_slice-others.ensures.value;
+      raisable_slice_is = c.raisable_of-raisable.ensures;
       made_lists_is = c.in_ok-all.ensures.lists;
       made_noted_is = c.in_ok-all.ensures.noted;
       made_order_is = c.in_ok-order.ensures;

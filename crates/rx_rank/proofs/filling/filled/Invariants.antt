@@ -10,6 +10,6 @@ invariant-loop-symbol g l = record {
   solver : IsSolver g.S.FnMut l.solve;
   same : l.pairs ≡ l.fn.pairs;
   decides :
-      noting l.noted (filled l.infos l.fn.pairs l.values.items (drop l.symbol-index l.order)) ≡
-      filled l.infos l.fn.pairs l.fn.start.items l.order;
+      noting l.noted (filled l.infos l.fn.pairs l.raised l.values.items (drop l.symbol-index l.order)) ≡
+      filled l.infos l.fn.pairs l.raised l.fn.start.items l.order;
 }

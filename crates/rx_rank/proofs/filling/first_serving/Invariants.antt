@@ -12,7 +12,7 @@ invariant-loop-at g l = record {
   same : l.pairs ≡ l.fn.pairs;
   decides :
       noting l.noted (first_applying
-      (map (from_target l.arity l.values (pairs_from l.symbol l.fn.pairs))
+      (map (from_target l.raised l.arity l.values (pairs_from l.symbol l.fn.pairs))
       (pairs_from l.symbol (drop l.at l.fn.pairs))))
-      ≡ first_serving l.arity l.values (pairs_from l.symbol l.fn.pairs);
+      ≡ first_serving l.raised l.arity l.values (pairs_from l.symbol l.fn.pairs);
 }

@@ -3,10 +3,10 @@ use Rattle.std.proofs.Common.{◌≡◌, drop, map, take}
 use Rattle.rx_solve.specs.Answers.{IsSolver}
 use Rattle.rx_solve.specs.Attempts.{first_applying}
 use Rattle.rx_anchors.specs.Choices.{lists_in, products}
-use Rattle.rx_rank.specs.Choices.{choosing}
+use Rattle.rx_rank.specs.Choices.{choosing, plain_choice}
 use Rattle.rx_rank.specs.Ranking.{most_choices}
 use Rattle.rx_rank.specs.Tries.{noting}
-use Rattle.rx_rank.proofs.choice.first_fit.Given as goal
+use Rattle.rx_rank.proofs.choice.first_plain.Given as goal
 
 abbrev pub invariant-loop-at : goal.invariant-loop-at
 invariant-loop-at g l = record {
@@ -14,7 +14,7 @@ invariant-loop-at g l = record {
   same : l.pairs ≡ l.fn.pairs;
   decides :
       noting l.noted (first_applying (map (choosing l.infos l.fn.pairs l.anchors l.order)
-      (drop l.at (take most_choices (products (lists_in l.lists))))))
+      (drop l.at (map plain_choice (take most_choices (products (lists_in l.lists)))))))
       ≡ first_applying (map (choosing l.infos l.fn.pairs l.anchors l.order)
-      (take most_choices (products (lists_in l.lists))));
+      (map plain_choice (take most_choices (products (lists_in l.lists)))));
 }

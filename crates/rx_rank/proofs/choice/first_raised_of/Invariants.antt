@@ -1,0 +1,19 @@
+-- What is left of the symbols decides, with what was noted so far.
+use Rattle.std.proofs.Common.{◌≡◌, drop, map}
+use Rattle.rx_solve.specs.Answers.{IsSolver}
+use Rattle.rx_solve.specs.Attempts.{first_applying}
+use Rattle.rx_anchors.specs.Values.{polys_at}
+use Rattle.rx_rank.specs.Choices.{choosing, raised_choices}
+use Rattle.rx_rank.specs.Tries.{noting}
+use Rattle.rx_rank.proofs.choice.first_raised_of.Given as goal
+
+abbrev pub invariant-loop-symbol : goal.invariant-loop-symbol
+invariant-loop-symbol g l = record {
+  solver : IsSolver g.S.FnMut l.solve;
+  same : l.pairs ≡ l.fn.pairs;
+  decides :
+      noting l.noted (first_applying (map (choosing l.infos l.fn.pairs l.anchors l.order)
+      (drop l.symbol-index (raised_choices l.raisable (polys_at l.choice)))))
+      ≡ first_applying (map (choosing l.infos l.fn.pairs l.anchors l.order)
+      (raised_choices l.raisable (polys_at l.choice)));
+}
