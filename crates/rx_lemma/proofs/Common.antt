@@ -42,7 +42,7 @@ use Rattle.rx_lemma.proofs.Polynomials.{none_left, replaces_from, stays_itself}
 
 -- ---- what is shown
 
-yes_both : (first later : Said) → first ≡ Yes → later ≡ Yes → and_also first later ≡ Yes
+pub yes_both : (first later : Said) → first ≡ Yes → later ≡ Yes → and_also first later ≡ Yes
 yes_both first later h k = ap (λ (s : Said). and_also s later) h ∙ k
 
 -- 0 is 0

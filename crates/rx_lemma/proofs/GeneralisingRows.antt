@@ -88,7 +88,8 @@ module _ (limit : ℕ) where
   row_low ps low (Eq p) h = instance_low ps low p h
   row_low ps low (Ne p) h = instance_low ps low p h
 
-  rows_low : (ps : List Body) → polys_use_below limit ps ≡ true → (rows : List Row) →
+  -- rows at polynomials below the limit are below it
+  pub rows_low : (ps : List Body) → polys_use_below limit ps ≡ true → (rows : List Row) →
       rows_use_below (length ps) rows ≡ true →
       rows_use_below limit (subst_rows (numbered ps) rows) ≡ true
   rows_low ps low [] h = refl
@@ -165,7 +166,7 @@ module _ (limit : ℕ) (ws : List (ℕ × Body)) (old : List Row) where
   abbrev pub AreFitting : List Row → Type 0
   AreFitting rows = All IsFitting rows
 
-  pushed_fits : (r : Row) (rows : List Row) → IsFitting r → AreFitting rows →
+  pub pushed_fits : (r : Row) (rows : List Row) → IsFitting r → AreFitting rows →
       AreFitting (pushed rows r)
   pushed_fits r rows here h = by (stands_among rows r)
     where

@@ -19,6 +19,7 @@ pub mod NamingTerms
 pub mod NamingValues
 pub mod NormalForms
 pub mod Polynomials
+pub mod RequiredRows
 pub mod ShapeLaws
 pub mod SubstitutionLaws
 pub mod Terms

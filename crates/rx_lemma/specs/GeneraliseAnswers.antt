@@ -5,12 +5,7 @@ use Rattle.rx_fm.specs.declared.fm_end.FmEnd.TheVariants.{Large as TooLarge}
 use Rattle.rx_lemma.specs.declared.generalised.Generalised.{Generalised}
 use Rattle.rx_lemma.specs.Lemmas.{Generalisation, found_as}
 
--- an answer that has that generalisation, or says that something passes the limits
-abbrev pub MakesOne : Option Generalisation → Result Generalised FmEnd → Type 0
-MakesOne made (Ok found) = made ≡ Some (found_as found)
-MakesOne made (Err e) = e ≡ TooLarge → made ≡ None
-
--- that has it, if there is one
+-- an answer that has that generalisation, if there is one, or says that something passes the limits
 abbrev pub FindsAny : Option (Option Generalisation) → Result (Option Generalised) FmEnd → Type 0
 FindsAny made (Ok None) = made ≡ Some None
 FindsAny made (Ok (Some found)) = made ≡ Some (Some (found_as found))

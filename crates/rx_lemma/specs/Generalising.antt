@@ -1,15 +1,17 @@
--- Two generalisations of a goal. Both drop the rows that only give a variable its value, and add
--- the rows of the rules at the calls of the new goal that the old rows show. The second replaces
--- polynomials that occur repeatedly with new variables.
-use Rattle.std.specs.Prelude.{ℕ, ◌+◌, nat_le, if◌then◌else◌, Option, Some, None, List, [], ◌∷◌, ◌++◌, length}
+-- Two generalisations of a goal. Both drop the rows that only give a variable its value, add the
+-- rows of the rules at the calls of the new goal that the old rows show, and then those that put the
+-- new goal inside the domains: where the old rows don't show one of these, there is no such lemma.
+-- The second replaces polynomials that occur repeatedly with new variables.
+use Rattle.std.specs.Prelude.{ℕ, ◌+◌, nat_le, if◌then◌else◌, Option, Some, None, List, [], ◌∷◌, ◌++◌, length, option_and_then}
 use Rattle.std.specs.List.{list_any}
 use Rattle.std.specs.Option.{option_map}
 use Rattle.rx_poly.specs.declared.body.Body.{Body}
 use Rattle.rx_row.specs.declared.row.Row.{Row}
 use Rattle.rx_term.specs.Bounds.{equation_bound}
+use Rattle.rx_term.specs.Domains.{inside_of}
 use Rattle.rx_term.specs.declared.rule.Equation.{Equation}
-use Rattle.rx_term.specs.declared.rule.Rule.{Rule}
 use Rattle.rx_term.specs.declared.rule_set.RuleParts.{RuleParts}
+use Rattle.rx_lemma.specs.InsideRows.{formed_required}
 use Rattle.rx_lemma.specs.Lemmas.{variables_end}
 use Rattle.rx_lemma.specs.Repeated.{new_variables, repeated, replaced_in}
 use Rattle.rx_lemma.specs.RuleRows.{formed_added, rule_rows}
@@ -37,26 +39,32 @@ abbrev pub replacing : Equation → List (ℕ × Body) → Equation
 replacing goal ws =
     record { left = replaced_in ws goal.left; right = replaced_in ws goal.right; rows = goal.rows }
 
-module _ (rules : List Rule) (goal : Equation) where
-  -- the new equation, with the goal's rows that don't give a value, and those of rules that are
-  -- shown
-  unfoldable pub generalised : LemmaKind → Equation → List (ℕ × Body) → Option Generalisation
-  generalised kind new ws =
-      option_map (over_rows kind new ws) (formed_added ws goal.rows (rule_rows rules new)
-      (other_rows goal.rows))
+module _ (parts : RuleParts) (goal : Equation) where
+  -- the goal's rows that don't give a value, and those of rules that are shown
+  abbrev pub kept_rows : Equation → List (ℕ × Body) → Option (List Row)
+  kept_rows new ws =
+      formed_added ws goal.rows (rule_rows parts.rules new) (other_rows goal.rows)
+
+  -- the rows of the new equation: these, and those that put it inside the domains
+  unfoldable pub new_rows : Equation → List (ℕ × Body) → Option (Option (List Row))
+  new_rows new ws =
+      option_and_then (formed_required ws goal.rows (inside_of parts new)) (kept_rows new ws)
+
+  -- the new equation with its rows
+  unfoldable pub generalised : LemmaKind → Equation → List (ℕ × Body) → Found
+  generalised kind new ws = option_map (option_map (over_rows kind new ws)) (new_rows new ws)
 
   -- ---- the first generalisation
 
   -- where a row gives a variable its value
   unfoldable pub without_values : Found
   without_values =
-      if list_any gives_value goal.rows then option_map Some (generalised DropValues goal []) else
-      Some None
+      if list_any gives_value goal.rows then generalised DropValues goal [] else Some None
 
   -- ---- the second
 
   unfoldable pub replacing_by : List (ℕ × Body) → Found
-  replacing_by ws = option_map Some (generalised ReplaceRepeated (replacing goal ws) ws)
+  replacing_by ws = generalised ReplaceRepeated (replacing goal ws) ws
 
   -- where there are such polynomials, and enough variables
   unfoldable pub replacing_all : List Body → Found
@@ -84,4 +92,4 @@ both_found (Some first) (Some second) = Some (as_list first ++ as_list second)
 -- the lemmas in order, or that something that is tried for them passes the limits
 unfoldable pub generalisations : RuleParts → Equation → Option (List Generalisation)
 generalisations parts goal =
-    both_found (without_values parts.rules goal) (replacing_repeated parts.rules goal)
+    both_found (without_values parts goal) (replacing_repeated parts goal)

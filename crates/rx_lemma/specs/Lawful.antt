@@ -1,6 +1,6 @@
 -- Lemmas as lawful steps: a step of kind Generalise on to the lemma is formed, and the refuter
--- shows what it asks. What it asks of the lemma alone, that it stays inside the domains, is a
--- premise; without domains it is nothing.
+-- shows what it asks. It asks of the lemma alone that it stays inside the domains; without domains
+-- that is nothing.
 use Rattle.std.specs.Prelude.{◌≡◌, true, Ok, List}
 use Rattle.std.specs.List.{list_all}
 use Rattle.rx_poly.specs.Normal.{is_poly}

@@ -6,6 +6,7 @@ pub mod Answers
 pub mod Calls
 pub mod GeneraliseAnswers
 pub mod Generalising
+pub mod InsideRows
 pub mod Lawful
 pub mod LawfulGeneralisations
 pub mod LawfulNaming

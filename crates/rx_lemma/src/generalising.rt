@@ -1,14 +1,14 @@
 //! Two generalisations of a goal.
 ghost use Rattle.std.specs.Prelude.{◌≡◌, IfOk};
-ghost use Rattle.rx_lemma.specs.GeneraliseAnswers.{FindsAll, FindsAny, MakesOne};
+ghost use Rattle.rx_lemma.specs.GeneraliseAnswers.{FindsAll, FindsAny};
 ghost use Rattle.rx_lemma.specs.Generalising as spec;
+ghost use Rattle.rx_lemma.specs.Lemmas.{found_as};
 ghost use Rattle.rx_lemma.specs.Parts.{AreListed, AreVariablesFor};
-ghost use Rattle.rx_lemma.specs.RuleRows as added;
 ghost use Rattle.rx_lemma.specs.RuleRows.{Makes};
-ghost use Rattle.rx_lemma.specs.Values as values;
 ghost use Rattle.rx_solve.specs.Answers.{IsSolver};
 
 use crate::generalised::Generalised;
+use crate::inside_rows::require_rows;
 use crate::lemma::{LemmaKind, VARIABLES_END};
 use crate::repeated::repeated;
 use crate::replaced::{new_variables, replaced_in};
@@ -19,14 +19,14 @@ use rx_fm::FmEnd;
 use rx_plain::Items;
 use rx_poly::Poly;
 use rx_row::Constraint;
-use rx_term::{Equation, Rule, RuleSet};
+use rx_term::{Equation, RuleSet, inside_of};
 use std::alloc::{AllocError, Global};
 
-/// The rows of the new equation: the goal's that don't give a value, and those of the rules at its
-/// calls whose instances are shown under the goal's rows.
-fn rows_for<S: FnMut(&Constraint) -> Result<Option<Cert>, FmEnd>>(
+/// The rows of the goal that don't give a value, and those of the rules at the new equation's calls
+/// whose instances are shown under the goal's rows.
+fn kept_rows<S: FnMut(&Constraint) -> Result<Option<Cert>, FmEnd>>(
     alloc: Global,
-    rules: &[Rule],
+    rules: &RuleSet,
     goal: &Equation,
     new: &Equation,
     with: &[(u32, Poly)],
@@ -34,44 +34,78 @@ fn rows_for<S: FnMut(&Constraint) -> Result<Option<Cert>, FmEnd>>(
 ) -> Result<Constraint, FmEnd>
     requires solver { IsSolver S.FnMut solve.old }
     ensures solver { IsSolver S.FnMut solve.new }
-    ensures answer { Makes (added.formed_added with.now goal.now.rows
-        (added.rule_rows rules.now new.now) (values.other_rows goal.now.rows)) result }
+    ensures answer { Makes (spec.kept_rows rules.now goal.now new.now with.now) result }
 {
-    let more = rule_rows(alloc, rules, new)?;
+    let more = rule_rows(alloc, rules.rules(), new)?;
     let others = other_rows(alloc, goal.rows.rows())?;
     add_rows(alloc, with, &goal.rows, more.as_slice(), others, solve)
 }
 
-/// The new equation, with the goal's rows that don't give a value, and those of the rules at its
-/// calls whose instances are shown under the goal's rows.
+/// The rows of the new equation: those that are kept, and those that put it inside the domains; None
+/// where one of the latter isn't shown under the goal's rows.
+#[tactic(auto, unfolding(crate::specs::Generalising::new_rows))]
+fn new_rows<S: FnMut(&Constraint) -> Result<Option<Cert>, FmEnd>>(
+    alloc: Global,
+    rules: &RuleSet,
+    goal: &Equation,
+    new: &Equation,
+    with: &[(u32, Poly)],
+    solve: &mut S,
+) -> Result<Option<Constraint>, FmEnd>
+    requires solver { IsSolver S.FnMut solve.old }
+    ensures solver { IsSolver S.FnMut solve.new }
+    ensures answer { Makes (spec.new_rows rules.now goal.now new.now with.now) result }
+{
+    let kept = kept_rows(alloc, rules, goal, new, with, solve)?;
+    let inside = inside_of(alloc, rules, new)?;
+    require_rows(alloc, with, &goal.rows, inside.as_slice(), kept, solve)
+}
+
+/// The new equation over the rows.
+fn over_rows(
+    kind: LemmaKind,
+    new: Equation,
+    with: Items<(u32, Poly)>,
+    rows: Constraint,
+) -> Generalised
+    ensures { found_as result ≡ spec.over_rows kind new with rows }
+{
+    let Equation { left, right, .. } = new;
+    Generalised {
+        kind,
+        goal: Equation { left, right, rows },
+        subst: with,
+    }
+}
+
+/// The new equation with its rows: the goal's that don't give a value, those of the rules at its
+/// calls whose instances are shown under the goal's rows, and those that put it inside the domains.
+/// None where one of the last isn't shown.
 #[tactic(auto, unfolding(crate::specs::Generalising::generalised))]
 fn generalise<S: FnMut(&Constraint) -> Result<Option<Cert>, FmEnd>>(
     alloc: Global,
-    rules: &[Rule],
+    rules: &RuleSet,
     goal: &Equation,
     kind: LemmaKind,
     new: Equation,
     with: Items<(u32, Poly)>,
     solve: &mut S,
-) -> Result<Generalised, FmEnd>
+) -> Result<Option<Generalised>, FmEnd>
     requires solver { IsSolver S.FnMut solve.old }
     ensures solver { IsSolver S.FnMut solve.new }
-    ensures answer { MakesOne (spec.generalised rules.now goal.now kind new with) result }
+    ensures answer { FindsAny (spec.generalised rules.now goal.now kind new with) result }
 {
-    let rows = rows_for(alloc, rules, goal, &new, with.as_slice(), solve)?;
-    let Equation { left, right, .. } = new;
-    Ok(Generalised {
-        kind,
-        goal: Equation { left, right, rows },
-        subst: with,
-    })
+    match new_rows(alloc, rules, goal, &new, with.as_slice(), solve)? {
+        Some(rows) => Ok(Some(over_rows(kind, new, with, rows))),
+        None => Ok(None),
+    }
 }
 
 /// The goal without the rows that give a variable its value, where there are such rows.
 #[tactic(auto, unfolding(crate::specs::Generalising::without_values))]
 fn without_values<S: FnMut(&Constraint) -> Result<Option<Cert>, FmEnd>>(
     alloc: Global,
-    rules: &[Rule],
+    rules: &RuleSet,
     goal: &Equation,
     solve: &mut S,
 ) -> Result<Option<Generalised>, FmEnd>
@@ -84,8 +118,7 @@ fn without_values<S: FnMut(&Constraint) -> Result<Option<Cert>, FmEnd>>(
     }
     let copy = goal.try_clone(alloc)?;
     let kind = LemmaKind::DropValues;
-    let found = generalise(alloc, rules, goal, kind, copy, Items::new(alloc), solve)?;
-    Ok(Some(found))
+    generalise(alloc, rules, goal, kind, copy, Items::new(alloc), solve)
 }
 
 /// The goal with the variables in place of their polynomials.
@@ -103,7 +136,7 @@ fn replacing(alloc: Global, goal: &Equation, with: &[(u32, Poly)]) -> Result<Equ
 #[tactic(auto, unfolding(crate::specs::Generalising::replacing_by))]
 fn replacing_by<S: FnMut(&Constraint) -> Result<Option<Cert>, FmEnd>>(
     alloc: Global,
-    rules: &[Rule],
+    rules: &RuleSet,
     goal: &Equation,
     with: Items<(u32, Poly)>,
     solve: &mut S,
@@ -114,8 +147,7 @@ fn replacing_by<S: FnMut(&Constraint) -> Result<Option<Cert>, FmEnd>>(
 {
     let new = replacing(alloc, goal, with.as_slice())?;
     let kind = LemmaKind::ReplaceRepeated;
-    let found = generalise(alloc, rules, goal, kind, new, with, solve)?;
-    Ok(Some(found))
+    generalise(alloc, rules, goal, kind, new, with, solve)
 }
 
 /// New variables for the polynomials, above those of the goal; None where there are not enough.
@@ -139,7 +171,7 @@ fn variables_for(
 #[tactic(auto, unfolding(crate::specs::Generalising::replacing_all))]
 fn replacing_all<S: FnMut(&Constraint) -> Result<Option<Cert>, FmEnd>>(
     alloc: Global,
-    rules: &[Rule],
+    rules: &RuleSet,
     goal: &Equation,
     polys: &[Poly],
     solve: &mut S,
@@ -161,7 +193,7 @@ fn replacing_all<S: FnMut(&Constraint) -> Result<Option<Cert>, FmEnd>>(
 /// any.
 fn replacing_repeated<S: FnMut(&Constraint) -> Result<Option<Cert>, FmEnd>>(
     alloc: Global,
-    rules: &[Rule],
+    rules: &RuleSet,
     goal: &Equation,
     solve: &mut S,
 ) -> Result<Option<Generalised>, FmEnd>
@@ -193,7 +225,9 @@ fn listed(
 
 /// Two generalisations of the goal, as far as they apply. Both drop the rows that only say that a
 /// variable is a number. They take the rows of the rules at the calls of the new goal, left side
-/// first, and add those whose instances the solver shows under the old rows.
+/// first, and add those whose instances the solver shows under the old rows. Then they add the rows
+/// that put the new goal inside the domains, left side first: where the solver doesn't show the
+/// instance of one of these under the old rows, the generalisation doesn't apply.
 ///
 /// The first applies where the goal has rows that say that a variable is a number. The second
 /// applies where a polynomial that is no variable alone is twice or more at one place of one symbol
@@ -214,7 +248,7 @@ pub fn lemmas<S: FnMut(&Constraint) -> Result<Option<Cert>, FmEnd>>(
     ensures solver { IsSolver S.FnMut solve.new }
     ensures answer { FindsAll (spec.generalisations rules.now goal.now) result }
 {
-    let first = without_values(alloc, rules.rules(), goal, solve)?;
-    let second = replacing_repeated(alloc, rules.rules(), goal, solve)?;
+    let first = without_values(alloc, rules, goal, solve)?;
+    let second = replacing_repeated(alloc, rules, goal, solve)?;
     Ok(listed(alloc, first, second)?)
 }

@@ -24,6 +24,7 @@ mod calls;
 mod constants;
 mod generalised;
 mod generalising;
+mod inside_rows;
 mod laws;
 mod lemma;
 mod lemma_laws;
@@ -41,7 +42,8 @@ pub use generalising::lemmas;
 pub use laws::{naming_keeps_shapes, naming_substitutes};
 pub use lemma::{LemmaKind, VARIABLES_END};
 pub use lemma_laws::{
-    generalisations_are_lawful, naming_is_lawful, without_domains_all_stay_inside,
+    generalisations_are_lawful, naming_is_lawful, no_domains_require_nothing,
+    without_domains_all_stay_inside,
 };
 pub use naming::named;
 pub use premises::equations_are_goals;

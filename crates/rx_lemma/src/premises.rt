@@ -6,6 +6,7 @@ ghost use Rattle.rx_inference.specs.Pieces.{is_equation};
 ghost use Rattle.rx_lemma.specs.Lawful.{IsGoal};
 ghost use Rattle.rx_poly.specs.Normal.{is_poly};
 ghost use Rattle.rx_row.specs.Parts.{poly_of};
+ghost use Rattle.rx_term.specs.Domains.{are_domains};
 ghost use Rattle.rx_term.specs.Variables.{arguments_of};
 ghost use Rattle.rx_term.specs.WellMade.{IsWellMade};
 
@@ -57,10 +58,12 @@ fn see_term(term: &Term)
 }
 
 /// The premises of the laws hold of each rule set, and of each equation over its symbols: the rules
-/// are well made (`made`), and the polynomials are normal forms within the limits (`goal`).
+/// are well made (`made`), their domains are over the arguments of the symbols (`domains`), and the
+/// polynomials are normal forms within the limits (`goal`).
 pub fn equations_are_goals(rules: &RuleSet, equation: &Equation)
     requires { is_equation rules.now equation.now ≡ true }
     ensures made { IsWellMade rules.now }
+    ensures domains { are_domains rules.now.symbols rules.now.domains ≡ true }
     ensures goal { IsGoal rules.now equation.now }
 {
     let _ = rules.parts();

@@ -100,7 +100,7 @@ fn is_shown<S: FnMut(&Constraint) -> Result<Option<Cert>, FmEnd>>(
 
 /// Whether the solver shows the row's instance, under the given ones.
 #[tactic(auto, unfolding(crate::specs::RuleRows::instance_said))]
-fn is_instance_shown<S: FnMut(&Constraint) -> Result<Option<Cert>, FmEnd>>(
+pub(crate) fn is_instance_shown<S: FnMut(&Constraint) -> Result<Option<Cert>, FmEnd>>(
     alloc: Global,
     with: &[(u32, Poly)],
     given: &Constraint,

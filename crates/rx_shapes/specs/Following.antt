@@ -10,6 +10,7 @@ use Rattle.rx_inference.specs.declared.step.Side.{Side}
 use Rattle.rx_relations.specs.Applying.{form_within}
 use Rattle.rx_shapes.specs.Candidates.{candidate_rows}
 use Rattle.rx_shapes.specs.General.{general_of}
+use Rattle.rx_shapes.specs.Inside.{with_inside}
 use Rattle.rx_shapes.specs.Options.{◌>>=◌, try_fold}
 use Rattle.rx_shapes.specs.declared.followed.Followed.{Followed}
 
@@ -61,8 +62,8 @@ abbrev pub may_follow : List Side → Equation → Equation → Bool
 may_follow task goal e =
     (not (is_idle task) && list_all (has_redex e) task) && is_as_shallow goal e
 
--- the shape of an equation from which on it is followed: the candidates may hold, and it has no
--- goal and no remainder places yet
+-- the shape of an equation from which on it is followed: the candidates may hold; it has no goal, no
+-- remainder places and no rows of domains yet
 abbrev pub shape_with : Equation → List Side → List Row → Followed
 shape_with e task rows =
     let sides = general_of e in
@@ -71,6 +72,7 @@ shape_with e task rows =
       task = task;
       remainders = [];
       variables = [];
+      inside = [];
       bounds = rows;
       goals = [];
       values = [];
@@ -81,11 +83,17 @@ followed_from parts task e = do
   rows ← form_within (candidate_rows parts e)
   Some (shape_with e task rows)
 
+-- with the rows of domains
+abbrev pub followed_inside : RuleParts → List Side → Equation → Option Followed
+followed_inside parts task e = do
+  f ← followed_from parts task e
+  with_inside parts f
+
 module _ (parts : RuleParts) (plan : List Side) (goal : Equation) where
   -- one shape more
   abbrev pub follow_further : List Followed → Equation → Option (List Followed)
   follow_further fs e = do
-    f ← followed_from parts (task_in plan goal e) e
+    f ← followed_inside parts (task_in plan goal e) e
     Some (fs ++ f ∷ [])
 
   -- it is new, and may be followed

@@ -1,12 +1,14 @@
 -- The general equation of a shape with some goals: the general sides, under the relations between
--- their places that hold at each of the goals, and those bounds that each of them shows.
-use Rattle.std.specs.Prelude.{Option, Some, if◌then◌else◌, List, [], ◌++◌, length}
+-- their places that hold at each of the goals, and those bounds that each of them shows; where one
+-- of them doesn't show that the general sides are inside the domains, there is none.
+use Rattle.std.specs.Prelude.{Option, Some, None, if◌then◌else◌, List, [], ◌++◌, length}
 use Rattle.rx_poly.specs.declared.body.Body.{Body}
 use Rattle.rx_row.specs.declared.row.Row.{Row}
 use Rattle.rx_inference.specs.Pieces.{all_pushed}
 use Rattle.rx_relations.specs.Applying.{form_within}
 use Rattle.rx_relations.specs.Relations.{relations_formed}
 use Rattle.rx_shapes.specs.Goals.{is_empty, with_goal}
+use Rattle.rx_shapes.specs.Inside.{stays_inside}
 use Rattle.rx_shapes.specs.Numbers.{number_bounds}
 use Rattle.rx_shapes.specs.Options.{◌>>=◌}
 use Rattle.rx_shapes.specs.Places.{places_of}
@@ -27,10 +29,14 @@ abbrev pub all_places : Followed → List Body
 all_places f = places_of f.general ++ f.variables
 
 -- the shape with its general equation, where each goal shows all its bounds
-abbrev pub generalised : Followed → Option Followed
-generalised f = do
+abbrev pub with_relations : Followed → Option Followed
+with_relations f = do
   relations ← form_within (relations_formed (length (all_places f)) f.values)
   Some (under_relations f relations)
+
+-- where these have the rows of the domains among them
+abbrev pub generalised : Followed → Option Followed
+generalised f = if stays_inside f then with_relations f else None
 
 -- ---- one goal more
 

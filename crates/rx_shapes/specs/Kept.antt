@@ -8,6 +8,7 @@ use Rattle.rx_inference.specs.declared.step.Side.{Side}
 use Rattle.rx_shapes.specs.Following.{follow_all, followed_from, followed_of, is_of}
 use Rattle.rx_shapes.specs.Generalising.{first_generalised, taken}
 use Rattle.rx_shapes.specs.Goals.{is_empty, known_goal, placed_later, put, put_all}
+use Rattle.rx_shapes.specs.Inside.{with_inside}
 use Rattle.rx_shapes.specs.Options.{◌>>=◌, try_fold, try_map}
 use Rattle.rx_shapes.specs.Remainders.{with_remainder_places}
 use Rattle.rx_shapes.specs.Shown.{shows}
@@ -177,7 +178,8 @@ gathering_from goal fs = record { shapes = fs; last = goal ∷ []; room = most_o
 abbrev pub followed_first : RuleParts → List Side → Equation → Option Followed
 followed_first parts plan goal = do
   f ← followed_from parts plan goal
-  with_remainder_places goal f
+  g ← with_remainder_places goal f
+  with_inside parts g
 
 abbrev pub begun : RuleParts → List Side → Equation → Option Gathering
 begun parts plan goal = do

@@ -8,6 +8,7 @@ pub mod General
 pub mod Generalising
 pub mod GoalBounds
 pub mod Goals
+pub mod Inside
 pub mod Kept
 pub mod Numbers
 pub mod Options

@@ -6,7 +6,7 @@ use rx_inference::{Side, have_one_shape};
 use rx_plain::Items;
 use rx_poly::{Poly, copied_polys};
 use rx_relations::Instance;
-use rx_row::Constraint;
+use rx_row::{Constraint, Row};
 use rx_term::Equation;
 use std::alloc::{AllocError, Global};
 
@@ -39,6 +39,8 @@ pub(crate) struct Followed {
     pub(crate) remainders: Items<Poly>,
     /// The variables of these places.
     pub(crate) variables: Items<Poly>,
+    /// The rows that put its general sides inside the domains.
+    pub(crate) inside: Items<Row>,
     /// Rows that may hold at all its goals.
     pub(crate) bounds: Constraint,
     /// Its goals so far.

@@ -14,6 +14,7 @@ use crate::applying::form_within;
 use crate::bounds::candidate_rows;
 use crate::followed::Followed;
 use crate::general::{GeneralSides, general_sides};
+use crate::inside::with_inside;
 use crate::places::places_of;
 use rx_inference::{Side, have_one_shape, side_of};
 use rx_plain::{Items, NoMemory};
@@ -167,6 +168,7 @@ fn shape_with(
         task,
         remainders: Items::new(alloc),
         variables: Items::new(alloc),
+        inside: Items::new(alloc),
         bounds: rows,
         goals: Items::new(alloc),
         values: Items::new(alloc),
@@ -207,8 +209,25 @@ pub(crate) fn followed_from(
     }
 }
 
-/// The shapes, and that of the equation after them; None exactly where a polynomial of its
-/// candidates passes the limits.
+/// The same with the rows that put its general sides inside the domains; None exactly where a
+/// polynomial of these or of its candidates passes the limits.
+fn followed_inside(
+    alloc: Global,
+    aim: &Aim<'_>,
+    task: Items<Side>,
+    equation: &Equation,
+) -> Result<Option<Followed>, NoMemory>
+    requires loops { AreLoopsOf aim.now.rules.now aim.now.loops.now }
+    ensures { IfOk result (λ o. o ≡ spec.followed_inside aim.now.rules.now task equation.now) }
+{
+    match followed_from(alloc, aim, task, equation)? {
+        Some(shape) => with_inside(alloc, aim.rules, shape),
+        None => Ok(None),
+    }
+}
+
+/// The shapes, and that of the equation after them; None exactly where a polynomial of its bounds
+/// passes the limits.
 fn follow_further(
     alloc: Global,
     aim: &Aim<'_>,
@@ -221,7 +240,7 @@ fn follow_further(
         o ≡ spec.follow_further aim.now.rules.now aim.now.plan.now aim.now.goal.now shapes
         equation.now) }
 {
-    match followed_from(alloc, aim, task, equation)? {
+    match followed_inside(alloc, aim, task, equation)? {
         Some(shape) => {
             let mut shapes = shapes;
             shapes.push(shape)?;
@@ -232,7 +251,7 @@ fn follow_further(
 }
 
 /// The shapes with that of the equation, if it is new and may be followed; None exactly where a
-/// polynomial of its candidates passes the limits then.
+/// polynomial of its bounds passes the limits then.
 fn follow(
     alloc: Global,
     aim: &Aim<'_>,
@@ -254,7 +273,7 @@ fn follow(
 }
 
 /// The shapes with those of the equations that are new and may be followed, in order; None exactly
-/// where a polynomial of a candidate passes the limits.
+/// where a polynomial of a bound passes the limits.
 pub(crate) fn follow_all(
     alloc: Global,
     aim: &Aim<'_>,

@@ -10,6 +10,7 @@ ghost use Rattle.rx_shapes.specs.Places.{places_of};
 
 use crate::explores::Explores;
 use crate::followed::{Followed, KnownGoal};
+use crate::inside::stays_inside;
 use crate::numbers::number_bounds;
 use crate::places::places_of;
 use crate::shown::{shown_at, shown_at_all};
@@ -65,9 +66,9 @@ fn relations_of(alloc: Global, shape: &Followed) -> Result<Option<Items<Row>>, N
     relations(alloc, count as u32, shape.values.as_slice())
 }
 
-/// The shape with its general equation; None exactly where a relation passes the limits.
-fn generalised(alloc: Global, shape: Followed) -> Result<Option<Followed>, NoMemory>
-    ensures { IfOk result (λ o. o ≡ spec.generalised shape) }
+/// The shape under its relations and bounds; None exactly where a relation passes the limits.
+fn with_relations(alloc: Global, shape: Followed) -> Result<Option<Followed>, NoMemory>
+    ensures { IfOk result (λ o. o ≡ spec.with_relations shape) }
 {
     let mut shape = shape;
     let Some(relations) = relations_of(alloc, &shape)? else {
@@ -77,8 +78,38 @@ fn generalised(alloc: Global, shape: Followed) -> Result<Option<Followed>, NoMem
     Ok(Some(shape))
 }
 
+/// The shape with its general equation; None exactly where a relation passes the limits, or one of
+/// the rows that put its sides inside the domains is no bound any more.
+fn generalised(alloc: Global, shape: Followed) -> Result<Option<Followed>, NoMemory>
+    ensures { IfOk result (λ o. o ≡ spec.generalised shape) }
+{
+    if !stays_inside(&shape) {
+        return Ok(None);
+    }
+    with_relations(alloc, shape)
+}
+
+/// The shape with the goal, without the bounds that this doesn't show.
+fn narrowed<E: Explores>(
+    alloc: Global,
+    explores: &mut E,
+    known: &KnownGoal,
+    shape: Followed,
+) -> Result<Followed, NoMemory>
+    requires ready { E.ready explores.old }
+    ensures ready { E.ready explores.new }
+    ensures world { E.world explores.new ≡ E.world explores.old }
+    ensures exact { IfOk result (λ f. f ≡ spec.narrowed known.now shape) }
+{
+    let mut shape = shape;
+    shape.bounds = shown_at(alloc, explores, &known.goal, shape.bounds.rows())?;
+    shape.add(alloc, known)?;
+    Ok(shape)
+}
+
 /// The shape with the goal, without the bounds that this doesn't show, and with its general equation
-/// then; None exactly where a relation passes the limits.
+/// then; None exactly where a relation passes the limits, or the goal doesn't show that the general
+/// sides are inside the domains.
 pub(crate) fn taken<E: Explores>(
     alloc: Global,
     explores: &mut E,
@@ -90,9 +121,7 @@ pub(crate) fn taken<E: Explores>(
     ensures world { E.world explores.new ≡ E.world explores.old }
     ensures exact { IfOk result (λ o. o ≡ spec.taken known.now shape) }
 {
-    let mut shape = shape;
-    shape.bounds = shown_at(alloc, explores, &known.goal, shape.bounds.rows())?;
-    shape.add(alloc, known)?;
+    let shape = narrowed(alloc, explores, known, shape)?;
     generalised(alloc, shape)
 }
 
@@ -109,7 +138,8 @@ fn all_bounds(alloc: Global, shape: &Followed) -> Result<Option<Constraint>, NoM
 }
 
 /// The shape with its general equation, where what the places of its goals say that are numbers is
-/// a bound, too; None exactly where something passes the limits.
+/// a bound, too; None exactly where something passes the limits, or one of its goals doesn't show
+/// that the general sides are inside the domains.
 fn with_all_bounds<E: Explores>(
     alloc: Global,
     explores: &mut E,
@@ -128,8 +158,8 @@ fn with_all_bounds<E: Explores>(
     generalised(alloc, shape)
 }
 
-/// The shape with its general equation, if it has a goal; None exactly where something passes the
-/// limits.
+/// The shape with its general equation, if it has a goal; None exactly where it has one and something
+/// passes the limits, or a goal doesn't show that the general sides are inside the domains.
 fn first_generalised<E: Explores>(
     alloc: Global,
     explores: &mut E,
@@ -147,7 +177,7 @@ fn first_generalised<E: Explores>(
 }
 
 /// The shapes with their general equations, those that have a goal; None exactly where something
-/// passes the limits.
+/// passes the limits, or a goal doesn't show that the general sides are inside the domains.
 pub(crate) fn all_generalised<E: Explores>(
     alloc: Global,
     explores: &mut E,

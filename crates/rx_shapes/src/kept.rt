@@ -10,6 +10,7 @@ use crate::following::followed_from;
 use crate::gathering::{Gathering, gather_times};
 use crate::generalising::all_generalised;
 use crate::goals::put;
+use crate::inside::with_inside;
 use crate::remaining::with_remainder_places;
 use crate::turning::turns;
 use rx_inference::Side;
@@ -38,16 +39,19 @@ fn gathering_from(
     })
 }
 
-/// The shape of the goal, with remainder places; None exactly where a polynomial of its candidates
-/// passes the limits.
+/// The shape of the goal, with remainder places; None exactly where a polynomial of its bounds passes
+/// the limits.
 fn followed_first(alloc: Global, aim: &Aim<'_>) -> Result<Option<Followed>, NoMemory>
     requires loops { AreLoopsOf aim.now.rules.now aim.now.loops.now }
     ensures { IfOk result (λ o. o ≡
         spec.followed_first aim.now.rules.now aim.now.plan.now aim.now.goal.now) }
 {
     let task = Items::from_slice(alloc, aim.plan)?;
-    match followed_from(alloc, aim, task, aim.goal)? {
-        Some(shape) => with_remainder_places(alloc, aim.goal, shape),
+    let Some(shape) = followed_from(alloc, aim, task, aim.goal)? else {
+        return Ok(None);
+    };
+    match with_remainder_places(alloc, aim.goal, shape)? {
+        Some(shape) => with_inside(alloc, aim.rules, shape),
         None => Ok(None),
     }
 }

@@ -19,6 +19,7 @@ mod general;
 mod generalising;
 mod goals;
 mod held;
+mod inside;
 mod kept;
 mod numbers;
 mod offering;
