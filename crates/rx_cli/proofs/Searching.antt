@@ -1,17 +1,23 @@
--- What comes of both searches, by how the stated one ends and by what the wider one finds.
-use Rattle.std.proofs.Common.{◌≡◌, ◌∙◌, ℕ, true, false, Option, Some, None, List, [], map, refl, sym, ap, subst}
-use Rattle.rx_cert.specs.Findings.{Said, Yes, No, Beyond}
-use Rattle.rx_rank.specs.Ranking.{ranked}
-use Rattle.rx_log.specs.Acceptance.{IsAccepted}
+-- What comes of both searches, by where they begin, how the stated one ends and what the wider one
+-- finds.
+use Rattle.std.proofs.Common.{◌≡◌, ◌∙◌, ℕ, Bool, true, false, Option, Some, None, Result, Ok, Err, List, refl, sym, ap, subst}
+use Rattle.std.specs.Prelude.{IfOk, IfSome, option_map}
+use Rattle.rx_plain.specs.declared.no_memory.NoMemory.{NoMemory}
+use Rattle.rx_log.specs.Acceptance.{Accepted, IsAccepted, verdict_over}
+use Rattle.rx_log.specs.Depth.{is_shallow_log}
 use Rattle.rx_log.specs.declared.log.Log.{Log}
 use Rattle.rx_logtext.specs.Logs.{IsLog}
 use Rattle.rx_row.specs.declared.row.Row.{Row}
-use Rattle.rx_moves.specs.Moves.{Move, move_of}
+use Rattle.rx_moves.specs.Moves.{Move}
+use Rattle.rx_search.specs.Beginning.{Over, Unranked, beginning, set_begun, set_of}
+use Rattle.rx_search.specs.Begun.{IsInside}
 use Rattle.rx_search.specs.Ends.{IsEnd}
-use Rattle.rx_search.specs.Search.{Searched, Closed, Large, NoPlan, searched, searched_with}
+use Rattle.rx_search.specs.Search.{Searched, Closed, Large, NoPlan, searched_from, unranked, visited}
+use Rattle.rx_search.specs.declared.beginning.Inside.{Inside}
 use Rattle.rx_search.specs.declared.search_end.SearchEnd.{SearchEnd}
 use Rattle.rx_search.specs.declared.search_end.SearchEnd.TheVariants as search_end
 use Rattle.rx_search.specs.Nodes.{IsProved}
+use Rattle.rx_search.proofs.Closing.{accepted_bare}
 use Rattle.rx_settle.specs.Reached.{IsReachedBy}
 use Rattle.rx_inference.specs.declared.step.Step.{Step}
 use Rattle.rx_wider.specs.Reached.{IsClosedNode}
@@ -22,48 +28,28 @@ use Rattle.rx_report.specs.declared.answer.Answer.TheVariants.{Line, Proof}
 use Rattle.rx_report.specs.declared.verdicts.Verdict.{Verdict}
 use Rattle.rx_report.specs.declared.verdicts.Verdict.TheVariants as verdicts
 use Rattle.rx_cli.specs.declared.problems.Problem.{Problem}
-use Rattle.rx_cli.specs.Proofs.{OnProblem, OnSearched}
+use Rattle.rx_cli.specs.Proofs.{OnSearched}
 use Rattle.rx_cli.specs.Searches.{found_or, sought, with_wider}
-use Rattle.rx_cli.specs.Steps.{SaysEnd, is_open}
+use Rattle.rx_cli.specs.Steps.{IsFound, IsFoundOver, IsOver, IsSolution, SaysEnd, both_over, is_open, log_or, moves_of}
 use Rattle.rx_term.specs.declared.rule.Equation.{Equation}
 use Rattle.rx_term.specs.declared.rule.Rule.{Rule}
 use Rattle.rx_term.specs.declared.rule_set.RuleParts.{RuleParts}
 
-module _ (parts : RuleParts) (goal : Equation) (depth budget : ℕ) where
+module _ (parts : RuleParts) (goal : Equation) (effort : Effort) where
   abbrev stated : Searched
-  stated = searched parts goal depth budget
+  stated = visited parts goal effort.depth effort.budget
 
   abbrev found : Option (List Move)
-  found = wider parts goal depth budget
+  found = wider parts goal effort.depth effort.budget
 
-  -- ---- the rules have ranks where the wider search follows
+  abbrev Ends : Searched → SearchEnd → Type 0
+  Ends s end = IsEnd effort.depth effort.budget s end
 
-  plan_ranked : (said : Said) → searched_with said parts goal depth budget ≡ NoPlan → said ≡ Yes
-  plan_ranked Yes e = refl
-  plan_ranked No e = absurd cc
-  plan_ranked Beyond e = absurd cc
-
-  large_ranked : (said : Said) (path : List ℕ) (rows : List Row) →
-      searched_with said parts goal depth budget ≡ Large path rows → said ≡ Yes
-  large_ranked Yes path rows e = refl
-  large_ranked No path rows e = absurd cc
-  large_ranked Beyond path rows e = absurd cc
-
-  pub open_ranked : (end : SearchEnd) → IsEnd depth budget stated end → is_open end ≡ true →
-      ranked parts [] ≡ Yes
-  open_ranked search_end.NoRanks is opens = absurd cc
-  open_ranked (search_end.LargeRanks rows) is opens = absurd cc
-  open_ranked (search_end.NoPlan d) is opens = plan_ranked (ranked parts []) is.0
-  open_ranked (search_end.Spent visits) is opens = absurd cc
-  open_ranked (search_end.Large path rows) is opens =
-      large_ranked (ranked parts []) path rows is
-  open_ranked search_end.NoMemory is opens = absurd cc
-
-  -- ---- what comes of both
+  -- ---- what comes of both over a set
 
   -- the wider search finds a proof
-  pub open_closed : (end : SearchEnd) (moves : List Move) → IsEnd depth budget stated end →
-      is_open end ≡ true → Some moves ≡ found → sought parts goal depth budget ≡ Closed moves
+  open_closed : (end : SearchEnd) (moves : List Move) → Ends stated end →
+      is_open end ≡ true → Some moves ≡ found → both_over parts goal effort ≡ Closed moves
   open_closed search_end.NoRanks moves is opens finds = absurd cc
   open_closed (search_end.LargeRanks rows) moves is opens finds = absurd cc
   open_closed (search_end.NoPlan d) moves is opens finds =
@@ -74,8 +60,8 @@ module _ (parts : RuleParts) (goal : Equation) (depth budget : ℕ) where
   open_closed search_end.NoMemory moves is opens finds = absurd cc
 
   -- it finds none
-  pub open_none : (end : SearchEnd) → IsEnd depth budget stated end → is_open end ≡ true →
-      None ≡ found → IsEnd depth budget (sought parts goal depth budget) end
+  open_none : (end : SearchEnd) → Ends stated end → is_open end ≡ true →
+      None ≡ found → Ends (both_over parts goal effort) end
   open_none search_end.NoRanks is opens none = absurd cc
   open_none (search_end.LargeRanks rows) is opens none = absurd cc
   open_none (search_end.NoPlan d) is opens none =
@@ -86,8 +72,8 @@ module _ (parts : RuleParts) (goal : Equation) (depth budget : ℕ) where
   open_none search_end.NoMemory is opens none = absurd cc
 
   -- it doesn't follow
-  pub not_open : (end : SearchEnd) → IsEnd depth budget stated end → is_open end ≡ false →
-      IsEnd depth budget (sought parts goal depth budget) end
+  pub not_open : (end : SearchEnd) → Ends stated end → is_open end ≡ false →
+      Ends (both_over parts goal effort) end
   not_open search_end.NoRanks is opens = ap (λ (s : Searched). with_wider s found) is
   not_open (search_end.LargeRanks rows) is opens = ap (λ (s : Searched). with_wider s found) is
   not_open (search_end.NoPlan d) is opens = absurd cc
@@ -98,8 +84,93 @@ module _ (parts : RuleParts) (goal : Equation) (depth budget : ℕ) where
 
   -- the stated search closes
   pub stated_closes : (moves : List Move) → stated ≡ Closed moves →
-      sought parts goal depth budget ≡ Closed moves
+      both_over parts goal effort ≡ Closed moves
   stated_closes moves is = ap (λ (s : Searched). with_wider s found) is
+
+  -- what the wider search makes of an end at which it follows
+  pub followed : (end : SearchEnd) (made : Result (Option Log) NoMemory) → Ends stated end →
+      is_open end ≡ true
+      → IfOk made (λ o. option_map moves_of o ≡ found)
+      → IfOk made (λ o. IfSome o (λ log. verdict_over parts goal log ≡ Accepted))
+      → IfOk made (λ o. IfSome o (λ (log : Log). log.domains ≡ None))
+      → IfOk made (λ o. IfSome o (λ log. is_shallow_log log ≡ true))
+      → IsFoundOver parts goal effort (log_or end made)
+  followed end (Ok None) is opens finds accepted bare shallow = open_none end is opens finds
+  followed end (Ok (Some log)) is opens finds accepted bare shallow = record {
+    closes = open_closed end (moves_of log) is opens finds;
+    accepted = accepted;
+    bare = bare;
+    shallow = shallow;
+  }
+  followed end (Err e) is opens finds accepted bare shallow = tt
+
+-- ---- from where a search begins
+
+module _ (problem : Problem) (effort : Effort) where
+  abbrev all : Searched
+  all = sought problem.rules problem.goal effort.depth effort.budget
+
+  -- both searches go over the set that the search begins with
+  sought_over : (rows : Option (List (List Row))) → beginning problem.rules problem.goal ≡ Over rows
+      → all ≡ both_over (set_of problem.rules rows) problem.goal effort
+  sought_over rows from =
+      ap (λ b. with_wider
+      (searched_from b problem.rules problem.goal effort.depth effort.budget)
+      (wider (set_begun problem.rules b) problem.goal effort.depth effort.budget)) from
+
+  none_wider : (noted : Bool) (some : Option (List Move)) →
+      with_wider (unranked noted problem.goal) some ≡ unranked noted problem.goal
+  none_wider false some = refl
+  none_wider true some = refl
+
+  -- there are no ranks
+  pub nowhere_found : (noted : Bool) (end : SearchEnd)
+      → beginning problem.rules problem.goal ≡ Unranked noted
+      → IsEnd effort.depth effort.budget (unranked noted problem.goal) end
+      → IsEnd effort.depth effort.budget all end
+  nowhere_found noted end from is =
+      let some : Option (List Move) =
+      wider problem.rules problem.goal effort.depth effort.budget in
+      let at : all ≡ with_wider (unranked noted problem.goal) some =
+      ap (λ b. with_wider
+      (searched_from b problem.rules problem.goal effort.depth effort.budget)
+      (wider (set_begun problem.rules b) problem.goal effort.depth effort.budget)) from in
+      subst (λ s. IsEnd effort.depth effort.budget s end) (sym (at ∙ none_wider noted some)) is
+
+  -- over the rules as they are
+  pub plain_found : (found : Result Log SearchEnd) → beginning problem.rules problem.goal ≡ Over None
+      → IsFoundOver problem.rules problem.goal effort found → IsFound problem effort all found
+  plain_found (Ok log) from is = record {
+    closes = sought_over None from ∙ is.closes;
+    accepted = accepted_bare problem.rules problem.goal log is.bare is.accepted;
+    shallow = is.shallow;
+  }
+  plain_found (Err end) from is =
+      subst (λ s. IsEnd effort.depth effort.budget s end) (sym (sought_over None from)) is
+
+  -- inside domains
+  module _ (inside : Inside) (is : IsInside problem.rules problem.goal inside)
+      (from : beginning problem.rules problem.goal ≡ Over (Some inside.domains.rows)) where
+    inside_sought : all ≡ both_over inside.rules problem.goal effort
+    inside_sought = sought_over (Some inside.domains.rows) from
+        ∙ ap (λ set. both_over set problem.goal effort) (sym is.set)
+
+    pub inside_log : (log made : Log) → IsOver inside.rules problem.goal effort log
+        → made ≡ record log { domains = Some inside.domains }
+        → IsAccepted problem.rules problem.goal made → is_shallow_log made ≡ true →
+        IsSolution problem all made
+    inside_log log made over same accepted shallow = record {
+      closes = inside_sought ∙ over.closes
+          ∙ ap (λ (log : Log). Closed (moves_of log)) (sym same);
+      accepted = accepted;
+      shallow = shallow;
+    }
+
+    pub inside_end : (end : SearchEnd)
+        → IsEnd effort.depth effort.budget (both_over inside.rules problem.goal effort) end
+        → IsEnd effort.depth effort.budget all end
+    inside_end end ends =
+        subst (λ s. IsEnd effort.depth effort.budget s end) (sym inside_sought) ends
 
 -- ---- proofs
 
@@ -121,11 +192,8 @@ closed_proved parts goal node steps hypotheses is same kept =
 -- ---- answers
 
 module _ (problem : Problem) (effort : Effort) where
-  abbrev both : Searched
-  both = sought problem.rules problem.goal effort.depth effort.budget
-
   -- a line that names the end
-  pub end_said : (s : Searched) (end : SearchEnd) (verdict : Verdict) →
+  end_said : (s : Searched) (end : SearchEnd) (verdict : Verdict) →
       IsEnd effort.depth effort.budget s end → SaysEnd end verdict →
       OnSearched problem effort s (Line verdict)
   end_said s search_end.NoRanks verdict is says =
@@ -143,9 +211,27 @@ module _ (problem : Problem) (effort : Effort) where
   end_said s search_end.NoMemory verdict is says = absurd says
 
   -- the text of the log that was found
-  pub proof_said : (log : Log) (text : List ℕ) → both ≡ Closed (map move_of log.steps) →
-      IsAccepted problem.rules problem.goal log → IsLog text log →
-      OnProblem problem effort (Proof text)
-  proof_said log text closes accepted is =
-      subst (λ (s : Searched). OnSearched problem effort s (Proof text)) (sym closes)
-      (text, record { log = log; accepted = accepted; steps = refl; is = is }, refl)
+  proof_said : (s : Searched) (log : Log) (text : List ℕ) → IsSolution problem s log →
+      IsLog text log → OnSearched problem effort s (Proof text)
+  proof_said s log text solves is =
+      subst (λ (s : Searched). OnSearched problem effort s (Proof text)) (sym solves.closes)
+      (text, record { log = log; accepted = solves.accepted; steps = refl; is = is }, refl)
+
+  -- a log that is found is shallow
+  pub found_shallow : (s : Searched) (found : Result Log SearchEnd) →
+      IsFound problem effort s found → IfOk found (λ log. is_shallow_log log ≡ true)
+  found_shallow s (Ok log) is = is.shallow
+  found_shallow s (Err end) is = tt
+
+  -- the answer by what is found
+  pub said_of_log : (s : Searched) (made : Result Log SearchEnd) (log : Log) (text : List ℕ) →
+      made ≡ Ok log → IsFound problem effort s made → IsLog text log →
+      OnSearched problem effort s (Proof text)
+  said_of_log s made log text same is text_is =
+      proof_said s log text (subst (IsFound problem effort s) same is) text_is
+
+  pub said_of_end : (s : Searched) (made : Result Log SearchEnd) (end : SearchEnd)
+      (verdict : Verdict) → made ≡ Err end → IsFound problem effort s made →
+      SaysEnd end verdict → OnSearched problem effort s (Line verdict)
+  said_of_end s made end verdict same is says =
+      end_said s end verdict (subst (IsFound problem effort s) same is) says

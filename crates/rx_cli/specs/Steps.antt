@@ -1,6 +1,6 @@
 -- What the functions inside promise to one another. Nothing that a caller of the run reads depends
 -- on these.
-use Rattle.std.specs.Prelude.{◌≡◌, ◌≢◌, ◌<◌, ◌≤◌, ◌^◌, ◌⊎◌, length, true, false, ⊤, ℕ, Bool, List, Option, Some, None, Vec, map, slice_get, nat_lt, MatchBool}
+use Rattle.std.specs.Prelude.{◌≡◌, ◌≢◌, ◌<◌, ◌≤◌, ◌^◌, ◌⊎◌, length, true, false, ⊤, ℕ, Bool, List, Option, Some, None, Result, Ok, Err, Vec, map, slice_get, nat_lt, MatchBool}
 use Rattle.std.specs.List.{list_all}
 use Rattle.c_ast.specs.declared.expr.Expr.{Expr}
 use Rattle.c_ast.specs.RowForms.{is_row_form}
@@ -14,7 +14,17 @@ use Rattle.rx_io.specs.Outside.{HoldsBytes, HoldsMore, IsMissing, Names}
 use Rattle.rx_command.specs.Commands.{Check, Comparison, Find, Functions, Induction, Prove, Refute, Replay}
 use Rattle.rx_translate.specs.declared.translation.Translation.{Translation}
 use Rattle.rx_plain.specs.Formed.{Formed}
+use Rattle.rx_log.specs.Acceptance.{Accepted, IsAccepted, verdict_over}
+use Rattle.rx_log.specs.Depth.{is_shallow_log}
 use Rattle.rx_log.specs.declared.log.Log.{Log}
+use Rattle.rx_plain.specs.declared.no_memory.NoMemory.{NoMemory}
+use Rattle.rx_search.specs.Ends.{IsEnd}
+use Rattle.rx_search.specs.Search.{Closed, Searched, visited}
+use Rattle.rx_term.specs.declared.rule.Equation.{Equation}
+use Rattle.rx_term.specs.declared.rule_set.RuleParts.{RuleParts}
+use Rattle.rx_wider.specs.Wider.{wider}
+use Rattle.rx_command.specs.declared.command.Effort.{Effort}
+use Rattle.rx_cli.specs.Searches.{with_wider}
 use Rattle.rx_moves.specs.Moves.{Move, move_of}
 use Rattle.rx_search.specs.declared.search_end.SearchEnd.{SearchEnd}
 use Rattle.rx_search.specs.declared.search_end.SearchEnd.TheVariants as search_end
@@ -96,6 +106,42 @@ is_open (search_end.NoPlan depth) = true
 is_open (search_end.Spent visits) = false
 is_open (search_end.Large path rows) = true
 is_open search_end.NoMemory = false
+
+-- what both searches come to over a set that has ranks
+abbrev pub both_over : RuleParts → Equation → Effort → Searched
+both_over parts goal effort =
+    with_wider (visited parts goal effort.depth effort.budget)
+    (wider parts goal effort.depth effort.budget)
+
+-- a log without domains is found over a set: its moves close both searches, and it is accepted
+pub record IsOver (parts : RuleParts) (goal : Equation) (effort : Effort) (log : Log) : Type 0 where
+  pub closes : both_over parts goal effort ≡ Closed (moves_of log)
+  pub accepted : verdict_over parts goal log ≡ Accepted
+  pub bare : log.domains ≡ None
+  pub shallow : is_shallow_log log ≡ true
+
+-- what is found over a set: such a log, or how both searches end
+abbrev pub IsFoundOver : RuleParts → Equation → Effort → Result Log SearchEnd → Type 0
+IsFoundOver parts goal effort (Ok log) = IsOver parts goal effort log
+IsFoundOver parts goal effort (Err end) =
+    IsEnd effort.depth effort.budget (both_over parts goal effort) end
+
+-- a log of a problem's proof, by what the searches come to
+pub record IsSolution (problem : Problem) (searched : Searched) (log : Log) : Type 0 where
+  pub closes : searched ≡ Closed (moves_of log)
+  pub accepted : IsAccepted problem.rules problem.goal log
+  pub shallow : is_shallow_log log ≡ true
+
+-- what is found of a problem: such a log, or how the searches end
+abbrev pub IsFound : Problem → Effort → Searched → Result Log SearchEnd → Type 0
+IsFound problem effort searched (Ok log) = IsSolution problem searched log
+IsFound problem effort searched (Err end) = IsEnd effort.depth effort.budget searched end
+
+-- the log that the wider search made, or else the end that was there before it
+abbrev pub log_or : SearchEnd → Result (Option Log) NoMemory → Result Log SearchEnd
+log_or end (Ok None) = Err end
+log_or end (Ok (Some log)) = Ok log
+log_or end (Err e) = Err search_end.NoMemory
 
 -- the verdict that names how a search ended without a log; out of memory has none
 abbrev pub SaysEnd : SearchEnd → Verdict → Type 0

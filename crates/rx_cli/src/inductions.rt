@@ -73,7 +73,6 @@ fn seek_by<S: FnMut(&Constraint) -> Result<Option<Cert>, FmEnd>>(
     solve: &mut S,
 ) -> Result<Answer, NoMemory>
     requires fits { IsFitting problem.now.rules problem.now.goal }
-    requires no_domains { problem.now.rules.domains ≡ [] }
     requires solver { IsSolver S.FnMut solve.old }
     ensures solver { IsSolver S.FnMut solve.new }
     ensures answer { IfOk result (OnCoverage (coverage problem.now.rules) problem.now effort) }
@@ -98,7 +97,6 @@ where
     S: Drop,
     requires known { IsCachedSolver S.FnMut cached }
     requires fits { IsFitting problem.now.rules problem.now.goal }
-    requires no_domains { problem.now.rules.domains ≡ [] }
     ensures answer { IfOk result (OnCoverage (coverage problem.now.rules) problem.now effort) }
     ensures reportable { IfOk result IsReportable }
 {
@@ -114,7 +112,6 @@ where
 /// Searches for a proof that solves a problem whose rules may not be coverable.
 fn on_posed(alloc: Global, problem: &Problem, effort: Effort) -> Result<Answer, NoMemory>
     requires fits { IsFitting problem.now.rules problem.now.goal }
-    requires no_domains { problem.now.rules.domains ≡ [] }
     ensures answer { IfOk result (OnCoverage (coverage problem.now.rules) problem.now effort) }
     ensures reportable { IfOk result IsReportable }
 {

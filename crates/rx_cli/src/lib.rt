@@ -3,6 +3,7 @@
 
 mod answers;
 mod check;
+mod dropping;
 mod examples;
 mod in_memory;
 mod inductions;

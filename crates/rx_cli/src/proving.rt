@@ -1,24 +1,27 @@
 //! The search for a proof.
-ghost use Rattle.std.specs.Prelude.{◌≡◌, ◌≤◌, [], true, length, option_map, IfOk, IfSome};
+ghost use Rattle.std.specs.Prelude.{◌≡◌, ◌≤◌, None, true, length, option_map, IfOk, IfSome};
 ghost use Rattle.rx_command.specs.Commands.{functions_view, is_short};
 ghost use Rattle.rx_cache.specs.CachedSolver.{IsCachedSolver};
 ghost use Rattle.rx_find_cover.specs.Coverable.{is_coverable};
 ghost use Rattle.rx_proofs.specs.Goals.{IsFitting};
 ghost use Rattle.rx_log.specs.Depth.{is_shallow_log};
 ghost use Rattle.rx_logtext.specs.Logs.{IsLog};
-ghost use Rattle.rx_log.specs.Acceptance.{IsAccepted};
-ghost use Rattle.rx_cert.specs.Findings.{Yes};
-ghost use Rattle.rx_pairs.specs.Pairs.{AreAllPairs};
-ghost use Rattle.rx_rank.specs.Ranking.{ranked};
+ghost use Rattle.rx_log.specs.Acceptance.{Accepted, verdict_over};
+ghost use Rattle.rx_pairs.specs.Inside.{listing};
+ghost use Rattle.rx_search.specs.Begun.{IsBegun, IsReady};
 ghost use Rattle.rx_search.specs.Ends.{IsEnd};
-ghost use Rattle.rx_search.specs.Search.{searched};
+ghost use Rattle.rx_search.specs.Search.{Searched, visited};
 ghost use Rattle.rx_solve.specs.Answers.{Answers, IsSolver};
 ghost use Rattle.rx_wider.specs.Wider.{wider};
 ghost use Rattle.rx_report.specs.Reports.{IsReportable};
-ghost use Rattle.rx_cli.specs.Proofs.{IsProved, OnProblem};
-ghost use Rattle.rx_cli.specs.Steps.{SaysEnd, is_open, moves_of};
+ghost use Rattle.rx_cli.specs.Proofs.{IsProved, OnProblem, OnSearched};
+ghost use Rattle.rx_cli.specs.Searches.{sought};
+ghost use Rattle.rx_cli.specs.Steps.{IsFound, IsFoundOver, SaysEnd, is_open, log_or, moves_of};
+ghost use Rattle.rx_command.specs.declared.command.Effort.{Effort};
+ghost use Rattle.rx_cli.specs.declared.problems.Problem.{Problem};
 ghost use Rattle.rx_report.specs.Texts.{IsReportableVerdict};
 
+use crate::dropping::dropped;
 use crate::problems::{Problem, ask};
 use c_front::Next;
 use rx_cache::CachedSolver;
@@ -28,12 +31,16 @@ use rx_fm::FmEnd;
 use rx_has_ranks::RankMemo;
 use rx_log::Log;
 use rx_logwriting::{LogEnd, write_log};
-use rx_pairs::Pair;
+use rx_pairs::Listing;
 use rx_plain::{Items, NoMemory};
 use rx_report::{Answer, Verdict};
 use rx_row::Constraint;
-use rx_search::{MOST_KEPT, SearchEnd, log_of, rule_pairs, search_with};
+use rx_search::{
+    Beginning, Inside, MOST_KEPT, SearchEnd, begin, log_inside, log_of, rule_pairs, search_over,
+    unranked_end,
+};
 use rx_solve::refutes;
+use rx_term::{Equation, RuleSet};
 use rx_wider::wider_search;
 use std::alloc::Global;
 
@@ -78,33 +85,32 @@ fn is_open(end: &SearchEnd) -> bool
     }
 }
 
-/// The log of what the wider search finds, if it finds a proof.
+/// The log of what the wider search over rules that have ranks finds, if it finds a proof.
 fn wider_log<S: FnMut(&Constraint) -> Result<Option<Cert>, FmEnd>>(
     alloc: Global,
-    problem: &Problem,
+    rules: &RuleSet,
+    listed: &Listing,
+    goal: &Equation,
     effort: Effort,
-    pairs: &[Pair],
     ranks: &mut RankMemo,
     solve: &mut S,
 ) -> Result<Option<Log>, NoMemory>
-    requires fits { IsFitting problem.now.rules problem.now.goal }
-    requires no_domains { problem.now.rules.domains ≡ [] }
-    requires coverable { is_coverable problem.now.rules ≡ true }
-    requires ranked { ranked problem.now.rules [] ≡ Yes }
-    requires pairs { AreAllPairs problem.now.rules.rules pairs.now }
+    requires fits { IsFitting rules.now goal.now }
+    requires ready { IsReady rules.now }
+    requires listed { listed.now ≡ listing rules.now rules.now.rules }
     requires solver { IsSolver S.FnMut solve.old }
     ensures solver { IsSolver S.FnMut solve.new }
     ensures found { IfOk result (λ o. option_map moves_of o ≡
-        wider problem.now.rules problem.now.goal effort.depth effort.budget) }
+        wider rules.now goal.now effort.depth effort.budget) }
     ensures accepted { IfOk result (λ o.
-        IfSome o (IsAccepted problem.now.rules problem.now.goal)) }
+        IfSome o (λ log. verdict_over rules.now goal.now log ≡ Accepted)) }
+    ensures bare { IfOk result (λ o. IfSome o (λ log. log.domains ≡ None)) }
     ensures shallow { IfOk result (λ o. IfSome o (λ log. is_shallow_log log ≡ true)) }
 {
-    let Problem { rules, goal } = problem;
     let found = wider_search(
         alloc,
         rules,
-        pairs,
+        listed,
         goal,
         effort.depth,
         effort.budget,
@@ -122,33 +128,142 @@ fn wider_log<S: FnMut(&Constraint) -> Result<Option<Cert>, FmEnd>>(
     }
 }
 
-/// The answer where the stated search ended without a log: the wider search may follow.
+/// The log that the wider search made, or else the end that was there before it.
+fn log_or(end: SearchEnd, made: Result<Option<Log>, NoMemory>) -> Result<Log, SearchEnd>
+    ensures { result ≡ log_or end made }
+{
+    match made {
+        Ok(None) => Err(end),
+        Ok(Some(log)) => Ok(log),
+        Err(NoMemory) => Err(SearchEnd::NoMemory),
+    }
+}
+
+/// What is found over rules where the stated search ended so: the wider search may follow.
 fn search_on<S: FnMut(&Constraint) -> Result<Option<Cert>, FmEnd>>(
+    alloc: Global,
+    rules: &RuleSet,
+    listed: &Listing,
+    goal: &Equation,
+    effort: Effort,
+    end: SearchEnd,
+    ranks: &mut RankMemo,
+    solve: &mut S,
+) -> Result<Log, SearchEnd>
+    requires fits { IsFitting rules.now goal.now }
+    requires ready { IsReady rules.now }
+    requires listed { listed.now ≡ listing rules.now rules.now.rules }
+    requires ended { IsEnd effort.depth effort.budget
+        (visited rules.now goal.now effort.depth effort.budget) end }
+    requires solver { IsSolver S.FnMut solve.old }
+    ensures solver { IsSolver S.FnMut solve.new }
+    ensures found { IsFoundOver rules.now goal.now effort result }
+{
+    if !is_open(&end) {
+        return Err(end);
+    }
+    let made = wider_log(alloc, rules, listed, goal, effort, ranks, solve);
+    log_or(end, made)
+}
+
+/// What both searches find over rules that have ranks: the stated search comes first.
+fn search_both<S: FnMut(&Constraint) -> Result<Option<Cert>, FmEnd>>(
+    alloc: Global,
+    rules: &RuleSet,
+    listed: &Listing,
+    goal: &Equation,
+    effort: Effort,
+    ranks: &mut RankMemo,
+    solve: &mut S,
+) -> Result<Log, SearchEnd>
+    requires fits { IsFitting rules.now goal.now }
+    requires ready { IsReady rules.now }
+    requires listed { listed.now ≡ listing rules.now rules.now.rules }
+    requires solver { IsSolver S.FnMut solve.old }
+    ensures solver { IsSolver S.FnMut solve.new }
+    ensures found { IsFoundOver rules.now goal.now effort result }
+{
+    match search_over(
+        alloc,
+        rules,
+        listed,
+        goal,
+        effort.depth,
+        effort.budget,
+        MOST_KEPT,
+        ranks,
+        solve,
+    ) {
+        Ok(log) => Ok(log),
+        Err(end) => search_on(alloc, rules, listed, goal, effort, end, ranks, solve),
+    }
+}
+
+/// What both searches find inside domains; a log gets the domains.
+fn search_inside<S: FnMut(&Constraint) -> Result<Option<Cert>, FmEnd>>(
     alloc: Global,
     problem: &Problem,
     effort: Effort,
-    pairs: &[Pair],
-    end: &SearchEnd,
+    inside: Inside,
     ranks: &mut RankMemo,
     solve: &mut S,
-) -> Result<Answer, NoMemory>
+) -> Result<Log, SearchEnd>
     requires fits { IsFitting problem.now.rules problem.now.goal }
-    requires no_domains { problem.now.rules.domains ≡ [] }
-    requires coverable { is_coverable problem.now.rules ≡ true }
-    requires ended { IsEnd effort.depth effort.budget
-        (searched problem.now.rules problem.now.goal effort.depth effort.budget) end.now }
-    requires pairs { AreAllPairs problem.now.rules.rules pairs.now }
+    requires begun { IsBegun problem.now.rules problem.now.goal (Beginning.Inside inside) }
     requires solver { IsSolver S.FnMut solve.old }
     ensures solver { IsSolver S.FnMut solve.new }
-    ensures answer { IfOk result (OnProblem problem.now effort) }
+    ensures found { IsFound problem.now effort
+        (sought problem.now.rules problem.now.goal effort.depth effort.budget) result }
+{
+    let Inside { rules, listed, .. } = &inside;
+    match search_both(alloc, rules, listed, &problem.goal, effort, ranks, solve) {
+        Ok(log) => Ok(log_inside(log, inside)),
+        Err(end) => Err(dropped(inside, end)),
+    }
+}
+
+/// What both searches find for a problem, from where they begin.
+fn search_from<S: FnMut(&Constraint) -> Result<Option<Cert>, FmEnd>>(
+    alloc: Global,
+    problem: &Problem,
+    effort: Effort,
+    ranks: &mut RankMemo,
+    solve: &mut S,
+) -> Result<Log, SearchEnd>
+    requires fits { IsFitting problem.now.rules problem.now.goal }
+    requires coverable { is_coverable problem.now.rules ≡ true }
+    requires solver { IsSolver S.FnMut solve.old }
+    ensures solver { IsSolver S.FnMut solve.new }
+    ensures found { IsFound problem.now effort
+        (sought problem.now.rules problem.now.goal effort.depth effort.budget) result }
+{
+    let Problem { rules, goal } = problem;
+    let listed = rule_pairs(alloc, rules)?;
+    let begun = begin(alloc, rules, &listed, goal, ranks, solve)?;
+    match begun {
+        Beginning::Plain => search_both(alloc, rules, &listed, goal, effort, ranks, solve),
+        Beginning::Inside(inside) => search_inside(alloc, problem, effort, inside, ranks, solve),
+        Beginning::Unranked { noted } => Err(unranked_end(alloc, noted, goal)),
+    }
+}
+
+/// The answer by what is found: the text of a log, or the verdict on an end.
+fn answer_of(alloc: Global, found: Result<Log, SearchEnd>) -> Result<Answer, NoMemory>
+    requires { IfOk found (λ log. is_shallow_log log ≡ true) }
+    ensures answer { (problem : Problem) → (effort : Effort) → (searched : Searched) →
+        IsFound problem effort searched found →
+        IfOk result (OnSearched problem effort searched) }
     ensures reportable { IfOk result IsReportable }
 {
-    if !is_open(end) {
-        return Ok(Answer::Line(verdict_on(end)?));
-    }
-    match wider_log(alloc, problem, effort, pairs, ranks, solve)? {
-        Some(log) => Ok(Answer::Proof(proof_text(alloc, &log)?)),
-        None => Ok(Answer::Line(verdict_on(end)?)),
+    match found {
+        Ok(log) => {
+            let text = proof_text(alloc, &log)?;
+            Ok(Answer::Proof(text))
+        }
+        Err(end) => {
+            let verdict = verdict_on(&end)?;
+            Ok(Answer::Line(verdict))
+        }
     }
 }
 
@@ -160,32 +275,15 @@ pub(crate) fn search_by<S: FnMut(&Constraint) -> Result<Option<Cert>, FmEnd>>(
     solve: &mut S,
 ) -> Result<Answer, NoMemory>
     requires fits { IsFitting problem.now.rules problem.now.goal }
-    requires no_domains { problem.now.rules.domains ≡ [] }
     requires coverable { is_coverable problem.now.rules ≡ true }
     requires solver { IsSolver S.FnMut solve.old }
     ensures solver { IsSolver S.FnMut solve.new }
     ensures answer { IfOk result (OnProblem problem.now effort) }
     ensures reportable { IfOk result IsReportable }
 {
-    let Problem { rules, goal } = problem;
     let mut ranks = RankMemo::new(alloc);
-    let all = rule_pairs(alloc, rules)?;
-    let pairs = all.as_slice();
-    let found = search_with(
-        alloc,
-        rules,
-        pairs,
-        goal,
-        effort.depth,
-        effort.budget,
-        MOST_KEPT,
-        &mut ranks,
-        solve,
-    );
-    match found {
-        Ok(log) => Ok(Answer::Proof(proof_text(alloc, &log)?)),
-        Err(end) => search_on(alloc, problem, effort, pairs, &end, &mut ranks, solve),
-    }
+    let found = search_from(alloc, problem, effort, &mut ranks, solve);
+    answer_of(alloc, found)
 }
 
 /// Searches for a proof that solves a problem, with the answers of a cached solver.
@@ -199,7 +297,6 @@ where
     S: Drop,
     requires known { IsCachedSolver S.FnMut cached }
     requires fits { IsFitting problem.now.rules problem.now.goal }
-    requires no_domains { problem.now.rules.domains ≡ [] }
     requires coverable { is_coverable problem.now.rules ≡ true }
     ensures answer { IfOk result (OnProblem problem.now effort) }
     ensures reportable { IfOk result IsReportable }
@@ -219,7 +316,6 @@ pub(crate) const CACHED_ANSWERS: u32 = 4096;
 /// Searches for a proof that solves a problem.
 fn on_problem(alloc: Global, problem: &Problem, effort: Effort) -> Result<Answer, NoMemory>
     requires fits { IsFitting problem.now.rules problem.now.goal }
-    requires no_domains { problem.now.rules.domains ≡ [] }
     requires coverable { is_coverable problem.now.rules ≡ true }
     requires depth { effort.depth ≤ 12 }
     ensures answer { IfOk result (OnProblem problem.now effort) }

@@ -13,7 +13,7 @@ use Rattle.rx_term.specs.declared.rule_set.RuleParts.{RuleParts}
 use Rattle.rx_domain.specs.Keeping.{Keeps, KeptPart, goes_on, keeping, keeping_from, part_finding, parts_kept, rule_part}
 use Rattle.rx_domain.specs.Setting.{with_domains}
 use Rattle.rx_find_domains.specs.Candidates.{all_candidates, candidates_from}
-use Rattle.rx_find_domains.specs.Finding.{count_rows, found_domains, given_rows, passes}
+use Rattle.rx_find_domains.specs.Finding.{count_rows, given_rows, settled}
 use Rattle.rx_find_domains.specs.Groups.{groups}
 use Rattle.rx_find_domains.specs.Kept.{AreAllKeeps, AreAllShown, AreKeeps, IsShown}
 use Rattle.rx_find_domains.specs.Parts.{rule_given}
@@ -21,26 +21,29 @@ use Rattle.rx_find_domains.specs.declared.given.Given.{Given}
 use Rattle.rx_find_domains.proofs.PassLaws.{pass_same, passes_settle}
 use Rattle.rx_find_domains.proofs.ShownLaws.{all_shown_there, given_of_rule}
 
--- what is found is shown at each part
-pub found_shown : (parts : RuleParts) (goal : Equation) →
-    AreAllShown (with_domains parts (found_domains parts goal)) goal
-found_shown parts goal =
-    let first = all_candidates parts goal in
-    let least : count_rows first ≤ count_rows first = omega arith in
-    all_shown_there parts (found_domains parts goal) goal
-    (pass_same parts goal (found_domains parts goal)
-    (passes_settle parts goal (count_rows first) first least)).1
+-- what is settled is shown at each part
+pub settled_shown : (parts : RuleParts) (goal : Equation) (lists : List (List Row)) →
+    AreAllShown (with_domains parts (settled parts goal lists)) goal
+settled_shown parts goal lists =
+    let least : count_rows lists ≤ count_rows lists = omega arith in
+    all_shown_there parts (settled parts goal lists) goal
+    (pass_same parts goal (settled parts goal lists)
+    (passes_settle parts goal (count_rows lists) lists least)).1
 
--- passes over the candidates find it
-pub found_by : (parts lent : RuleParts) (goal : Equation) (names : List ℕ)
-    (first last : List (List Row)) → lent ≡ parts → names ≡ groups lent →
+-- passes over the lists settle them
+pub settled_by : (parts lent : RuleParts) (goal : Equation) (first last : List (List Row)) →
+    lent ≡ parts → last ≡ settled lent goal first → last ≡ settled parts goal first
+settled_by parts lent goal first last same done =
+    done ∙ ap (λ (ps : RuleParts). settled ps goal first) same
+
+-- the candidates are made by the groups
+pub candidates_by : (parts lent : RuleParts) (goal : Equation) (names : List ℕ)
+    (first : List (List Row)) → lent ≡ parts → names ≡ groups lent →
     first ≡ candidates_from names lent.rules goal 0 lent.symbols →
-    last ≡ passes (count_rows first) lent goal first → last ≡ found_domains parts goal
-found_by parts lent goal names first last same named begun done =
+    first ≡ all_candidates parts goal
+candidates_by parts lent goal names first same named begun =
     let all : names ≡ groups parts = named ∙ ap groups same in
-    let start : first ≡ all_candidates parts goal =
-    begun ∙ (λ i. candidates_from (all i) (same i).rules goal 0 (same i).symbols) in
-    done ∙ (λ i. passes (count_rows (start i)) (same i) goal (start i))
+    begun ∙ (λ i. candidates_from (all i) (same i).rules goal 0 (same i).symbols)
 
 -- ---- certificates
 

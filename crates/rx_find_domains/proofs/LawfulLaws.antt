@@ -1,5 +1,4 @@
--- The lists that are found are one for each symbol, over its arguments: so are the candidates, and
--- dropping rows keeps it.
+-- The candidates are a list for each symbol, over its arguments; and dropping rows keeps it.
 use Rattle.std.proofs.Common.{◌≡◌, ◌∙◌, ap, refl, ℕ, zero, suc, ◌+◌, nat_lt, Bool, true, false, if◌then◌else◌, cond, None, Some, List, [], ◌∷◌, ◌++◌, length, set}
 use Rattle.std.specs.List.{filter, fold}
 use Rattle.std.proofs.lemmas.Bool.{and_from, and_parts}
@@ -16,7 +15,7 @@ use Rattle.rx_term.specs.declared.rule_set.RuleParts.{RuleParts}
 use Rattle.rx_term.specs.declared.rule_set.SymInfo.{SymInfo}
 use Rattle.rx_domain.specs.Setting.{bad_domain, bad_from}
 use Rattle.rx_find_domains.specs.Candidates.{all_candidates, candidates_from, most_candidates, offered, taken, taking}
-use Rattle.rx_find_domains.specs.Finding.{at_occurrence, at_part, at_row, count_rows, found_domains, given_rows, is_kept, leaves_all, list_of, pass, passes, without}
+use Rattle.rx_find_domains.specs.Finding.{at_occurrence, at_part, at_row, count_rows, given_rows, is_kept, leaves_all, list_of, pass, passes, settled, without}
 use Rattle.rx_find_domains.specs.Groups.{groups}
 use Rattle.rx_find_domains.specs.Parts.{Asking, all_askings}
 use Rattle.rx_find_domains.specs.declared.given.Given.{Given}
@@ -154,9 +153,12 @@ module _ (infos : List SymInfo) where
         by true rest = pass_lawful parts goal lists here
         by false rest = rest
 
-pub found_lawful : (parts : RuleParts) (goal : Equation) →
-    bad_domain parts.symbols (found_domains parts goal) ≡ None
-found_lawful parts goal =
-    passes_lawful parts.symbols (count_rows (all_candidates parts goal)) parts goal
-    (all_candidates parts goal)
-    (candidates_lawful (groups parts) parts.rules goal 0 parts.symbols)
+pub settled_lawful : (parts : RuleParts) (goal : Equation) (lists : List (List Row)) →
+    bad_domain parts.symbols lists ≡ None →
+    bad_domain parts.symbols (settled parts goal lists) ≡ None
+settled_lawful parts goal lists here =
+    passes_lawful parts.symbols (count_rows lists) parts goal lists here
+
+pub all_lawful : (parts : RuleParts) (goal : Equation) →
+    bad_domain parts.symbols (all_candidates parts goal) ≡ None
+all_lawful parts goal = candidates_lawful (groups parts) parts.rules goal 0 parts.symbols

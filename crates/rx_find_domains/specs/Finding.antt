@@ -86,7 +86,10 @@ passes (suc n) parts goal lists =
     if leaves_all parts goal lists then pass parts goal lists
     else passes n parts goal (pass parts goal lists)
 
--- each pass that drops something leaves fewer rows, so there are no more of them than rows
+-- the lists but for what isn't kept; each pass that drops something leaves fewer rows, so there are
+-- no more passes than rows
+abbrev pub settled : RuleParts → Equation → List (List Row) → List (List Row)
+settled parts goal lists = passes (count_rows lists) parts goal lists
+
 abbrev pub found_domains : RuleParts → Equation → List (List Row)
-found_domains parts goal =
-    passes (count_rows (all_candidates parts goal)) parts goal (all_candidates parts goal)
+found_domains parts goal = settled parts goal (all_candidates parts goal)

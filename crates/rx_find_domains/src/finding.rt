@@ -3,7 +3,8 @@ ghost use Rattle.std.specs.Prelude.{◌≡◌, None, IfOk};
 ghost use Rattle.rx_domain.specs.Keeping.{Keeps, keeping};
 ghost use Rattle.rx_domain.specs.Setting.{bad_domain, with_domains};
 ghost use Rattle.rx_solve.specs.Answers.{IsSolver};
-ghost use Rattle.rx_find_domains.specs.Finding.{found_domains};
+ghost use Rattle.rx_find_domains.specs.Candidates.{all_candidates};
+ghost use Rattle.rx_find_domains.specs.Finding.{found_domains, settled};
 ghost use Rattle.rx_find_domains.specs.Kept.{AreAllKeeps};
 
 use crate::candidates::all_candidates;
@@ -18,25 +19,65 @@ use rx_row::Constraint;
 use rx_term::{Equation, RuleSet};
 use std::alloc::Global;
 
-/// The rows of each symbol: its candidates, but for those that aren't kept.
-fn find_rows<S: FnMut(&Constraint) -> Result<Option<Cert>, FmEnd>>(
+/// The candidates of each symbol.
+fn candidate_lists(
     alloc: Global,
     rules: &RuleSet,
     goal: &Equation,
-    solve: &mut S,
-) -> Result<Items<Constraint>, NoMemory>
-    requires solver { IsSolver S.FnMut solve.old }
-    ensures solver { IsSolver S.FnMut solve.new }
-    ensures rows { IfOk result (λ rows. rows ≡ found_domains rules.now goal.now) }
+) -> Result<Vec<Constraint>, NoMemory>
+    ensures { IfOk result (λ lists. lists.items ≡ all_candidates rules.now goal.now) }
 {
     let parts = rules.parts();
     if parts.symbols.len() > u32::MAX as usize {
         return Err(NoMemory);
     }
     let names = find_groups(alloc, parts)?;
-    let mut lists = all_candidates(alloc, names.as_slice(), parts, goal)?;
-    settle(alloc, parts, goal, &mut lists, solve)?;
+    let lists = all_candidates(alloc, names.as_slice(), parts, goal)?;
+    Ok(lists)
+}
+
+/// The lists, but for the rows that aren't kept.
+fn settle_rows<S: FnMut(&Constraint) -> Result<Option<Cert>, FmEnd>>(
+    alloc: Global,
+    rules: &RuleSet,
+    goal: &Equation,
+    lists: Vec<Constraint>,
+    solve: &mut S,
+) -> Result<Items<Constraint>, NoMemory>
+    requires solver { IsSolver S.FnMut solve.old }
+    ensures solver { IsSolver S.FnMut solve.new }
+    ensures rows { IfOk result (λ rows. rows ≡ settled rules.now goal.now lists.items) }
+{
+    let mut lists = lists;
+    settle(alloc, rules.parts(), goal, &mut lists, solve)?;
     Ok(Items::from_vec(lists))
+}
+
+/// Domains for the symbols of the rules: of these lists, one for each symbol over its own arguments,
+/// the rows that both sides of the goal and the right sides of the rules keep, as the solver shows
+/// it, with certificates of that. A row is dropped as soon as it isn't shown somewhere, until
+/// nothing is; what passes the limits isn't shown. The rules' own domains aren't looked at. Fails
+/// only where there is no memory.
+pub fn settled_domains<S: FnMut(&Constraint) -> Result<Option<Cert>, FmEnd>>(
+    alloc: Global,
+    rules: &RuleSet,
+    goal: &Equation,
+    lists: Vec<Constraint>,
+    solve: &mut S,
+) -> Result<Domains, NoMemory>
+    requires solver { IsSolver S.FnMut solve.old }
+    requires lawful { bad_domain rules.now.symbols lists.items ≡ None }
+    ensures solver { IsSolver S.FnMut solve.new }
+    ensures rows { IfOk result (λ found. found.rows ≡ settled rules.now goal.now lists.items) }
+    ensures lawful { IfOk result (λ found. bad_domain rules.now.symbols found.rows ≡ None) }
+    ensures keeps { IfOk result (λ found.
+        keeping (with_domains rules.now found.rows) goal.now found.keeps ≡ Keeps) }
+    ensures certificates { IfOk result (λ found.
+        AreAllKeeps (with_domains rules.now found.rows) goal.now found.keeps) }
+{
+    let rows = settle_rows(alloc, rules, goal, lists, solve)?;
+    let keeps = find_keeps(alloc, rules, goal, rows.as_slice(), solve)?;
+    Ok(Domains { rows, keeps })
 }
 
 /// Domains for the symbols of the rules: rows that both sides of the goal and the right sides of
@@ -65,7 +106,6 @@ pub fn find_domains<S: FnMut(&Constraint) -> Result<Option<Cert>, FmEnd>>(
     ensures certificates { IfOk result (λ found.
         AreAllKeeps (with_domains rules.now found.rows) goal.now found.keeps) }
 {
-    let rows = find_rows(alloc, rules, goal, solve)?;
-    let keeps = find_keeps(alloc, rules, goal, rows.as_slice(), solve)?;
-    Ok(Domains { rows, keeps })
+    let lists = candidate_lists(alloc, rules, goal)?;
+    settled_domains(alloc, rules, goal, lists, solve)
 }

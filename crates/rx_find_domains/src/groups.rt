@@ -53,7 +53,7 @@ fn link_graph(alloc: Global, symbols: &[SymInfo], pairs: &[Pair]) -> Result<Grap
 }
 
 /// By symbol the least symbol of its group. Fails only where there is no memory.
-pub(crate) fn find_groups(alloc: Global, parts: &RuleParts) -> Result<Vec<u32>, NoMemory>
+pub fn find_groups(alloc: Global, parts: &RuleParts) -> Result<Vec<u32>, NoMemory>
     requires made { IsWellMade parts.now }
     requires few { length parts.now.symbols ≤ 2 ^ 32 }
     ensures { IfOk result (λ names. names.items ≡ groups parts.now) }
@@ -67,7 +67,7 @@ pub(crate) fn find_groups(alloc: Global, parts: &RuleParts) -> Result<Vec<u32>, 
 }
 
 /// Whether two symbols are there, and in one group by these names.
-pub(crate) fn in_one_group(names: &[u32], first: usize, second: Sym) -> bool
+pub fn in_one_group(names: &[u32], first: usize, second: Sym) -> bool
     ensures { result ≡ in_one_group names.now first second.0 }
 {
     let Some(left) = names.get(first) else {

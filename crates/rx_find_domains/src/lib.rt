@@ -10,7 +10,8 @@ mod keeps;
 mod passes;
 mod staying;
 
-pub use finding::find_domains;
+pub use finding::{find_domains, settled_domains};
+pub use groups::{find_groups, in_one_group};
 pub use rx_domain::Domains;
 pub use rx_fm::FmEnd;
 pub use rx_plain::NoMemory;

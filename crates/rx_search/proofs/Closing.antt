@@ -1,6 +1,6 @@
 -- At a node that is closed no goal is left; and its log is accepted.
-use Rattle.std.proofs.Common.{◌≡◌, ℕ, Option, None, Ok, List, [], ◌++◌, map, refl, sym, ap, subst, ◌∙◌}
-use Rattle.std.proofs.lemmas.List.Elements.{All-append}
+use Rattle.std.proofs.Common.{◌≡◌, ℕ, Option, Some, None, Result, Ok, Err, List, [], ◌++◌, map, refl, sym, ap, subst, ◌∙◌}
+use Rattle.std.specs.Prelude.{IfOk}
 use Rattle.rx_row.specs.declared.row.Row.{Row}
 use Rattle.rx_term.specs.declared.rule.Equation.{Equation}
 use Rattle.rx_term.specs.declared.rule.Rule.{Rule}
@@ -8,33 +8,30 @@ use Rattle.rx_term.specs.declared.rule_set.RuleParts.{RuleParts}
 use Rattle.rx_inference.specs.States.{State}
 use Rattle.rx_inference.specs.declared.step.Step.{Step}
 use Rattle.rx_cover.specs.Covering.{Covers, covering}
+use Rattle.rx_domain.specs.Keeping.{keeping}
+use Rattle.rx_domain.specs.Setting.{with_domains}
 use Rattle.rx_domain.specs.declared.domains.Domains.{Domains}
-use Rattle.rx_pairs.specs.Inside.{descends_in, descent_in}
-use Rattle.rx_pairs.specs.Listed.{pairs_by_all}
+use Rattle.rx_pairs.specs.Inside.{descends_in}
 use Rattle.rx_pairs.specs.Lowering.{Descends}
-use Rattle.rx_pairs.specs.Pairs.{HasRoot}
 use Rattle.rx_pairs.specs.Ranks.{bad_rank}
-use Rattle.rx_pairs.specs.declared.listing.Listing.{Listing}
-use Rattle.rx_pairs.proofs.InsideLaws.{listing_none}
-use Rattle.rx_pairs.proofs.ListedLaws.{all_listed}
-use Rattle.rx_pairs.proofs.PairsLaws.{made_roots}
 use Rattle.rx_find_ranks.specs.Found.{LowersAll}
 use Rattle.rx_find_ranks.specs.declared.ranking.Ranking.{Ranking}
-use Rattle.rx_log.specs.Acceptance.{Checked, IsAccepted, ◌>>=◌, after_steps, concluded, kept_by, kept_over, of_descent, once_covered, once_inside, once_ranked, used}
+use Rattle.rx_log.specs.Acceptance.{Accepted, Checked, IsAccepted, ◌>>=◌, after_steps, concluded, kept_by, kept_over, of_descent, once_covered, once_inside, once_kept, once_lawful, once_ranked, used, verdict_over}
 use Rattle.rx_log.specs.Acceptance as acceptance
 use Rattle.rx_log.specs.declared.log.Log.{Log}
 use Rattle.rx_moves.specs.Moves.{move_of}
+use Rattle.rx_search.specs.Begun.{AreFound}
 use Rattle.rx_search.specs.Calls.{node_of}
 use Rattle.rx_search.specs.Nodes.{IsNode, IsProved}
 use Rattle.rx_search.specs.NodeNodes as nodes
 use Rattle.rx_search.specs.Search as search
 use Rattle.rx_search.specs.NodeNodes.{is_closed}
-use Rattle.rx_search.specs.Search.{menu, of_outcome, settled}
+use Rattle.rx_search.specs.Search.{menu, settled}
 use Rattle.rx_search.specs.declared.node.Node.{Node}
+use Rattle.rx_search.specs.declared.search_end.SearchEnd.{SearchEnd}
 use Rattle.rx_search.proofs.Left.{no_goal}
 use Rattle.rx_proofs.specs.Runs as joins
 use Rattle.rx_settle.specs.Reached.{IsReachedBy}
-use Rattle.rx_settle.proofs.ReachedLaws.{reached_rooted}
 use Rattle.rx_search.proofs.Running.{logged}
 use Rattle.rx_deepening.proofs.ClosedLaws.{closed_told}
 use Rattle.rx_deepening.specs.Outcomes.{outcome}
@@ -70,10 +67,10 @@ pub closed_steps : (parts : RuleParts) (depth budget : ℕ) (first : nodes.Node)
     (o : Outcome Node (List Row)) (node : Node) (steps : List Step)
     → seen_outcome node_of o ≡ outcome budget (all_visits (settled parts) (menu parts) depth first)
     → o ≡ outcomes.Closed node → steps ≡ node.steps
-    → of_outcome (outcome budget (all_visits (settled parts) (menu parts) depth first)) ≡
+    → search.of_outcome (outcome budget (all_visits (settled parts) (menu parts) depth first)) ≡
     search.Closed (map move_of steps)
 closed_steps parts depth budget first o node steps seen is same =
-    ap of_outcome (sym seen ∙ ap (seen_outcome node_of) is) ∙
+    ap search.of_outcome (sym seen ∙ ap (seen_outcome node_of) is) ∙
     ap (λ xs. search.Closed (map move_of xs)) (sym same)
 
 -- ---- logs
@@ -92,9 +89,9 @@ node_proved parts goal node steps hypotheses is closed same kept =
       ranked = is.ranked;
     }))
 
-module _ (parts : RuleParts) (none : parts.domains ≡ []) (goal : Equation) (made : List Step)
+module _ (parts : RuleParts) (goal : Equation) (made : List Step)
     (hypotheses : List Rule) (log : Log) (ranking : Ranking)
-    (is : IsProved parts goal made hypotheses) (without : log.domains ≡ None)
+    (is : IsProved parts goal made hypotheses)
     (covers : covering parts log.covers ≡ Covers) (steps : log.steps ≡ made)
     (table : log.table ≡ ranking.table)
     (certs : log.pairs ≡ ranking.certs) (lowers : LowersAll parts hypotheses ranking) where
@@ -109,24 +106,38 @@ module _ (parts : RuleParts) (none : parts.domains ≡ []) (goal : Equation) (ma
       ∙ ap (λ t. once_ranked (bad_rank parts t) (Ok hypotheses)) table
       ∙ ap (λ bad. once_ranked bad (Ok hypotheses)) lowers.lawful
 
-  abbrev all : List Rule
-  all = parts.rules ++ hypotheses
-
-  descends : descends_in parts all log.table log.pairs ≡ Descends
+  descends : descends_in parts (parts.rules ++ hypotheses) log.table log.pairs ≡ Descends
   descends =
-      let roots = All-append HasRoot parts.rules hypotheses
-      (made_roots parts parts.rules is.reached.made)
-      (reached_rooted parts goal made (joins.finished hypotheses) is.reached)
-      in
-      (λ i. descends_in parts all (table i) (certs i))
-      ∙ ap (λ (l : Listing). descent_in ranking.table l.whole 0 l.pairs ranking.certs)
-      (listing_none parts none all)
-      ∙ lowers.lower (pairs_by_all all) (all_listed all roots)
+      (λ i. descends_in parts (parts.rules ++ hypotheses) (table i) (certs i)) ∙ lowers.lower
 
   -- the log of a proof is accepted
-  pub accepted : IsAccepted parts goal log
-  accepted =
-      ap (λ (d : Option Domains). concluded (used parts d) log
-      (once_inside parts goal d (kept_over (used parts d) goal log))) without
-      ∙ ap (concluded parts log) keeps
-      ∙ ap of_descent descends
+  pub accepted : verdict_over parts goal log ≡ Accepted
+  accepted = ap (concluded parts log) keeps ∙ ap of_descent descends
+
+-- ---- logs with domains
+
+-- where these are found, a log that is accepted inside them is accepted with them
+pub accepted_inside : (parts : RuleParts) (goal : Equation) (log made : Log) (domains : Domains)
+    → made ≡ record log { domains = Some domains } → AreFound parts goal domains
+    → verdict_over (with_domains parts domains.rows) goal log ≡ Accepted → IsAccepted parts goal made
+accepted_inside parts goal log made domains same found is =
+    let set : RuleParts = with_domains parts domains.rows in
+    let kept : Checked (List Rule) = kept_over set goal log in
+    subst (IsAccepted parts goal) (sym same)
+    (ap (λ bad. concluded set log (once_lawful bad
+    (once_kept (keeping set goal domains.keeps) kept))) found.lawful
+    ∙ ap (λ keeps. concluded set log (once_kept keeps kept)) found.keeps ∙ is)
+
+-- one without domains is accepted as over the rules as they are
+pub accepted_bare : (parts : RuleParts) (goal : Equation) (log : Log) → log.domains ≡ None →
+    verdict_over parts goal log ≡ Accepted → IsAccepted parts goal log
+accepted_bare parts goal log none is =
+    ap (λ (d : Option Domains). concluded (used parts d) log
+    (once_inside parts goal d (kept_over (used parts d) goal log))) none ∙ is
+
+-- so is what a call answers
+pub bare_accepted : (parts : RuleParts) (goal : Equation) (found : Result Log SearchEnd)
+    → IfOk found (λ log. verdict_over parts goal log ≡ Accepted)
+    → IfOk found (λ (log : Log). log.domains ≡ None) → IfOk found (IsAccepted parts goal)
+bare_accepted parts goal (Ok log) is none = accepted_bare parts goal log none is
+bare_accepted parts goal (Err end) is none = tt

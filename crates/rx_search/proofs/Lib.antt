@@ -1,5 +1,6 @@
 -- Steps from the start, what they keep, and what choices and visits come to.
 -- Whether goals are left; what is made of a list.
+pub mod BegunLaws
 pub mod Choosing
 pub mod Closing
 pub mod Finding

@@ -1,5 +1,5 @@
 -- Of a log that is found no certificate and no tree is deeper than 200.
-use Rattle.std.proofs.Common.{◌≡◌, ◌≤◌, Bool, true, ◌&&◌, List, [], ◌∷◌, None, Option, refl, sym, ap, subst, ◌∙◌, arith, All}
+use Rattle.std.proofs.Common.{◌≡◌, ◌≤◌, Bool, true, ◌&&◌, List, [], ◌∷◌, Some, None, Option, refl, sym, ap, subst, ◌∙◌, arith, All}
 use Rattle.std.specs.Prelude.{nat_le}
 use Rattle.std.specs.List.{list_all}
 use Rattle.std.proofs.lemmas.Bool.{and_from, and_parts}
@@ -45,7 +45,7 @@ cert_shallow cert h = grind arith
 deep_shallow : (cert : Cert) → is_cert_deep cert ≡ true → is_shallow cert ≡ true
 deep_shallow cert h = grind arith
 
-certs_shallow : (certs : List Cert) → All (λ (cert : Cert). cert_depth cert ≤ 174) certs →
+pub certs_shallow : (certs : List Cert) → All (λ (cert : Cert). cert_depth cert ≤ 174) certs →
     are_shallow certs ≡ true
 certs_shallow certs all =
     all_pass (λ (cert : Cert). cert_depth cert ≤ 174) is_shallow cert_shallow certs all
@@ -132,3 +132,15 @@ module _ (parts : RuleParts) where
       ∙ all_pass (λ (c : PairCert). All (λ (cert : Cert). cert_depth cert ≤ most_deep) c.certs)
       (λ (pair : PairCert). are_shallow pair.certs)
       (λ pair. certs_shallow pair.certs) pairs deep_pairs)
+
+-- with shallow domains it is shallow as before
+pub shallow_inside : (log made : Log) (domains : Domains) → made ≡ record log { domains = Some domains }
+    → is_shallow_log log ≡ true → are_shallow_keeps (Some domains) ≡ true →
+    is_shallow_log made ≡ true
+shallow_inside log made domains same one two =
+    let others = list_all (λ trees. list_all is_shallow_tree trees) log.covers
+    && (list_all (λ (step : Step). are_shallow (certificates step)) log.steps
+    && list_all (λ (pair : PairCert). are_shallow pair.certs) log.pairs) in
+    ap is_shallow_log same
+    ∙ and_from (are_shallow_keeps (Some domains)) others two
+    (and_parts (are_shallow_keeps log.domains) others one).1

@@ -1,5 +1,7 @@
 -- What a search for a proof comes to.
 -- Nodes of the search, and the choices at them.
+pub mod Beginning
+pub mod Begun
 pub mod Calls
 pub mod Candidates
 pub mod Ends

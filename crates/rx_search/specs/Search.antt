@@ -1,16 +1,15 @@
--- What a search comes to: ranks of the rules alone first, then the visits within the budget, each
--- node settled and its choices tried.
-use Rattle.std.specs.Prelude.{ℕ, ◌==◌, if◌then◌else◌, Option, None, List, [], ◌++◌}
+-- What a search comes to: the set that it begins with, then the visits within the budget, each node
+-- settled and its choices tried.
+use Rattle.std.specs.Prelude.{ℕ, ◌==◌, if◌then◌else◌, Bool, true, false, Option, None, List, [], ◌++◌}
 use Rattle.std.specs.List.{filter_map}
 use Rattle.std.specs.Option.{option_map}
 use Rattle.rx_row.specs.declared.row.Row.{Row}
-use Rattle.rx_cert.specs.Findings.{Said, Yes, No, Beyond}
 use Rattle.rx_term.specs.declared.rule.Equation.{Equation}
 use Rattle.rx_term.specs.declared.rule_set.RuleParts.{RuleParts}
-use Rattle.rx_rank.specs.Ranking.{ranked}
 use Rattle.rx_moves.specs.Moves.{Move}
 use Rattle.rx_settle.specs.Settling.{most_moves, rows_if, settle}
 use Rattle.rx_settle.specs.Settling as settling
+use Rattle.rx_search.specs.Beginning.{Beginning, Over, Unranked, beginning, set_of}
 use Rattle.rx_search.specs.NodeNodes.{Node, is_closed, node_with}
 use Rattle.rx_search.specs.NodeNodes as nodes
 use Rattle.rx_search.specs.Menu.{Chosen, chosen, is_any_noted}
@@ -59,9 +58,9 @@ module _ (parts : RuleParts) where
 
 -- ---- the search
 
--- what a search comes to: no ranks of the rules; the rows of the goal, where the limits are passed
--- on the way to those; the moves of a proof; the rows of the goal at which the limits were passed
--- first, and the choices on the path to it; more visits than the budget; no plan of the depth
+-- what a search comes to: no set has ranks; the rows of the goal, where the limits are passed on the
+-- way to those; the moves of a proof; the rows of the goal at which the limits were passed first,
+-- and the choices on the path to it; more visits than the budget; no plan of the depth
 pub data Searched : Type 0 where
   NoRanks : Searched
   LargeRanks : List Row → Searched
@@ -80,12 +79,22 @@ of_outcome outcomes.Through = NoPlan
 abbrev pub start : Equation → Node
 start goal = nodes.start goal most_moves
 
--- where the rules have ranks, the visits decide; the ranks' own note comes before theirs
-abbrev pub searched_with : Said → RuleParts → Equation → ℕ → ℕ → Searched
-searched_with Yes parts goal depth budget =
+-- what the visits come to
+abbrev pub visited : RuleParts → Equation → ℕ → ℕ → Searched
+visited parts goal depth budget =
     of_outcome (outcome budget (all_visits (settled parts) (menu parts) depth (start goal)))
-searched_with No parts goal depth budget = NoRanks
-searched_with Beyond parts goal depth budget = LargeRanks goal.rows
+
+-- where no set has ranks, whether the limits were passed decides
+abbrev pub unranked : Bool → Equation → Searched
+unranked false goal = NoRanks
+unranked true goal = LargeRanks goal.rows
+
+-- where a set has ranks, the visits over it decide, and what was noted on the way to them counts
+-- for nothing
+abbrev pub searched_from : Beginning → RuleParts → Equation → ℕ → ℕ → Searched
+searched_from (Over rows) parts goal depth budget = visited (set_of parts rows) goal depth budget
+searched_from (Unranked noted) parts goal depth budget = unranked noted goal
 
 abbrev pub searched : RuleParts → Equation → ℕ → ℕ → Searched
-searched parts goal depth budget = searched_with (ranked parts []) parts goal depth budget
+searched parts goal depth budget =
+    searched_from (beginning parts goal) parts goal depth budget

@@ -1,6 +1,7 @@
 //! The choices at a settled node: what is known of its first goal, put among the node's others.
 ghost use Rattle.std.specs.Prelude.{◌≡◌, ◌∷◌, ◌++◌, [], All, IfOk, IfSome, None, OnOk, Some, map, slice_get, List};
-ghost use Rattle.rx_pairs.specs.Pairs.{AreAllPairs, HasRoot, SidesFit};
+ghost use Rattle.rx_pairs.specs.Inside.{listing};
+ghost use Rattle.rx_pairs.specs.Pairs.{HasRoot, SidesFit};
 ghost use Rattle.rx_rank.specs.Ranking.{ranked};
 ghost use Rattle.rx_search.specs.Known.{AreRight, IsRightAt, chosen_by, tried_at};
 ghost use Rattle.rx_search.specs.Menu.{Chosen, chosen_at};
@@ -15,7 +16,7 @@ use crate::node_choices::{Choices, KnownChoice, Trial};
 use rx_cert::Cert;
 use rx_fm::FmEnd;
 use rx_has_ranks::{RankMemo, has_ranks_with};
-use rx_pairs::Pair;
+use rx_pairs::Listing;
 use rx_plain::{NoMemory, Shared};
 use rx_row::Constraint;
 use rx_term::{Equation, RuleSet};
@@ -37,11 +38,11 @@ fn where_ranked<S: FnMut(&Constraint) -> Result<Option<Cert>, FmEnd>>(
     rules: &RuleSet,
     node: Node,
     noted: bool,
-    pairs: &[Pair],
+    listed: &Listing,
     memo: &mut RankMemo,
     solve: &mut S,
 ) -> Result<Trial, NoMemory>
-    requires pairs { AreAllPairs rules.now.rules pairs.now }
+    requires listed { listed.now ≡ listing rules.now rules.now.rules }
     requires solver { IsSolver S.FnMut solve.old }
     requires roots { All HasRoot node.state.hypotheses }
     requires fits { All (SidesFit rules.now) node.state.hypotheses }
@@ -49,7 +50,7 @@ fn where_ranked<S: FnMut(&Constraint) -> Result<Option<Cert>, FmEnd>>(
     ensures ranked { IfOk result (λ t. t ≡ if_ranked (ranked rules.now node.state.hypotheses) node
         noted) }
 {
-    match has_ranks_with(alloc, rules, pairs, node.state.hypotheses(), memo, solve) {
+    match has_ranks_with(alloc, rules, listed, node.state.hypotheses(), memo, solve) {
         Ok(true) => Ok(Trial {
             node: Some(node),
             noted,
@@ -67,13 +68,13 @@ fn try_known<S: FnMut(&Constraint) -> Result<Option<Cert>, FmEnd>>(
     rules: &RuleSet,
     node: &Node,
     known: &KnownChoice,
-    pairs: &[Pair],
+    listed: &Listing,
     memo: &mut RankMemo,
     solve: &mut S,
 ) -> Result<Trial, NoMemory>
     requires reached { (goal : Equation) × IsReached rules.now goal node.now }
     requires right { IsRightAt rules.now node.now.state known.now }
-    requires pairs { AreAllPairs rules.now.rules pairs.now }
+    requires listed { listed.now ≡ listing rules.now rules.now.rules }
     requires solver { IsSolver S.FnMut solve.old }
     ensures solver { IsSolver S.FnMut solve.new }
     ensures tried { IfOk result (IsTried node.now (tried_at rules.now node.now.state known.now)) }
@@ -86,7 +87,7 @@ fn try_known<S: FnMut(&Constraint) -> Result<Option<Cert>, FmEnd>>(
     }
     let Trial { node: found, noted } = trial;
     match found {
-        Some(next) => where_ranked(alloc, rules, next, noted, pairs, memo, solve),
+        Some(next) => where_ranked(alloc, rules, next, noted, listed, memo, solve),
         None => Ok(Trial { node: None, noted }),
     }
 }
@@ -98,13 +99,13 @@ fn add_known<S: FnMut(&Constraint) -> Result<Option<Cert>, FmEnd>>(
     node: &Node,
     known: &KnownChoice,
     found: &mut Choices,
-    pairs: &[Pair],
+    listed: &Listing,
     memo: &mut RankMemo,
     solve: &mut S,
 ) -> Result<(), NoMemory>
     requires reached { (goal : Equation) × IsReached rules.now goal node.now }
     requires right { IsRightAt rules.now node.now.state known.now }
-    requires pairs { AreAllPairs rules.now.rules pairs.now }
+    requires listed { listed.now ≡ listing rules.now rules.now.rules }
     requires solver { IsSolver S.FnMut solve.old }
     ensures solver { IsSolver S.FnMut solve.new }
     ensures grows { (cs : List Chosen) → AreChoices node.now cs found.old →
@@ -114,7 +115,7 @@ fn add_known<S: FnMut(&Constraint) -> Result<Option<Cert>, FmEnd>>(
         All (λ c. IsNode rules.now goal c.node) found.old.choices →
         OnOk result (All (λ c. IsNode rules.now goal c.node) found.new.choices) }
 {
-    let trial = try_known(alloc, rules, node, known, pairs, memo, solve)?;
+    let trial = try_known(alloc, rules, node, known, listed, memo, solve)?;
     found.add(known.number, trial)
 }
 
@@ -124,13 +125,13 @@ fn add_all<S: FnMut(&Constraint) -> Result<Option<Cert>, FmEnd>>(
     rules: &RuleSet,
     node: &Node,
     known: &[KnownChoice],
-    pairs: &[Pair],
+    listed: &Listing,
     memo: &mut RankMemo,
     solve: &mut S,
 ) -> Result<Choices, NoMemory>
     requires reached { (goal : Equation) × IsReached rules.now goal node.now }
     requires right { All (IsRightAt rules.now node.now.state) known.now }
-    requires pairs { AreAllPairs rules.now.rules pairs.now }
+    requires listed { listed.now ≡ listing rules.now rules.now.rules }
     requires solver { IsSolver S.FnMut solve.old }
     ensures solver { IsSolver S.FnMut solve.new }
     ensures choices { IfOk result (AreChoices node.now
@@ -140,7 +141,7 @@ fn add_all<S: FnMut(&Constraint) -> Result<Option<Cert>, FmEnd>>(
 {
     let mut found = Choices::new(alloc);
     for one in known {
-        add_known(alloc, rules, node, one, &mut found, pairs, memo, solve)?;
+        add_known(alloc, rules, node, one, &mut found, listed, memo, solve)?;
     }
     Ok(found)
 }
@@ -152,14 +153,14 @@ pub(crate) fn find_choices<S: FnMut(&Constraint) -> Result<Option<Cert>, FmEnd>>
     rules: &RuleSet,
     node: &Node,
     first: Shared<Equation>,
-    pairs: &[Pair],
+    listed: &Listing,
     memo: &mut RankMemo,
     known: &mut ChoiceMemo,
     solve: &mut S,
 ) -> Result<Choices, NoMemory>
     requires reached { (goal : Equation) × IsReached rules.now goal node.now }
     requires first { Some first ≡ slice_get node.now.state.goals 0 }
-    requires pairs { AreAllPairs rules.now.rules pairs.now }
+    requires listed { listed.now ≡ listing rules.now rules.now.rules }
     requires known { AreRight rules.now known.old }
     requires solver { IsSolver S.FnMut solve.old }
     ensures known { AreRight rules.now known.new }
@@ -171,6 +172,6 @@ pub(crate) fn find_choices<S: FnMut(&Constraint) -> Result<Option<Cert>, FmEnd>>
 {
     let choices = known_choices(alloc, rules, known, first, solve)?;
     let all = choices.get().as_slice();
-    let found = add_all(alloc, rules, node, all, pairs, memo, solve);
+    let found = add_all(alloc, rules, node, all, listed, memo, solve);
     dropped(choices, found)
 }

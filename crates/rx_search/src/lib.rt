@@ -8,6 +8,7 @@
 //! is exactly what `specs/Calls` says.
 #![tactic(auto)]
 
+mod beginning;
 mod candidates;
 mod choices;
 mod dropping;
@@ -19,10 +20,11 @@ mod plans;
 mod search;
 mod search_end;
 
+pub use beginning::{Beginning, Inside, begin, rule_pairs};
 pub use candidates::{Candidate, Candidates, find_candidates};
 pub use node::{Node, copied_rows, is_closed};
 pub use node_choices::{Choices, KnownChoice, Trial};
 pub use rx_fm::FmEnd;
 pub use rx_plain::NoMemory;
-pub use search::{MOST_KEPT, Search, log_of, rule_pairs, search_with};
+pub use search::{MOST_KEPT, Search, log_inside, log_of, search_over, search_with, unranked_end};
 pub use search_end::SearchEnd;

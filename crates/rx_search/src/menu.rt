@@ -1,7 +1,7 @@
 //! The menu at a settled node.
 ghost use Rattle.std.specs.Prelude.{◌≡◌, All, IfOk};
 ghost use Rattle.rx_search.specs.Calls.{node_of};
-ghost use Rattle.rx_pairs.specs.Pairs.{AreAllPairs};
+ghost use Rattle.rx_pairs.specs.Inside.{listing};
 ghost use Rattle.rx_search.specs.Known.{AreRight};
 ghost use Rattle.rx_search.specs.Nodes.{IsNode, IsReached};
 ghost use Rattle.rx_search.specs.Search.{menu};
@@ -17,7 +17,7 @@ use rx_cert::Cert;
 use rx_deepening::Menu;
 use rx_fm::FmEnd;
 use rx_has_ranks::RankMemo;
-use rx_pairs::Pair;
+use rx_pairs::Listing;
 use rx_plain::{Items, NoMemory};
 use rx_row::{Constraint, Row};
 use rx_steps::State;
@@ -39,13 +39,13 @@ pub(crate) fn find_menu<S: FnMut(&Constraint) -> Result<Option<Cert>, FmEnd>>(
     alloc: Global,
     rules: &RuleSet,
     node: &Node,
-    pairs: &[Pair],
+    listed: &Listing,
     memo: &mut RankMemo,
     known: &mut ChoiceMemo,
     solve: &mut S,
 ) -> Result<Menu<Node, Items<Row>>, NoMemory>
     requires reached { (goal : Equation) × IsReached rules.now goal node.now }
-    requires pairs { AreAllPairs rules.now.rules pairs.now }
+    requires listed { listed.now ≡ listing rules.now rules.now.rules }
     requires known { AreRight rules.now known.old }
     requires solver { IsSolver S.FnMut solve.old }
     ensures known { AreRight rules.now known.new }
@@ -60,7 +60,7 @@ pub(crate) fn find_menu<S: FnMut(&Constraint) -> Result<Option<Cert>, FmEnd>>(
             note: None,
         });
     };
-    let found = find_choices(alloc, rules, node, first, pairs, memo, known, solve)?;
+    let found = find_choices(alloc, rules, node, first, listed, memo, known, solve)?;
     let note = noted_rows(alloc, found.noted, &node.state)?;
     Ok(Menu {
         choices: found.choices,

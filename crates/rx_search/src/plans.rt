@@ -19,7 +19,7 @@ use rx_deepening::{Menu, Settled, Tree};
 use rx_fm::FmEnd;
 use rx_has_ranks::RankMemo;
 use rx_moves::LoopPoints;
-use rx_pairs::Pair;
+use rx_pairs::Listing;
 use rx_plain::{Items, NoMemory};
 use rx_row::{Constraint, Row};
 use rx_settle::{SettleMemo, append_steps, settle};
@@ -83,8 +83,8 @@ pub(crate) struct Plans<'a, S> {
     pub(crate) goal: &'a Equation,
     /// The loop points of the rules.
     pub(crate) points: &'a LoopPoints,
-    /// The pairs of the rules.
-    pub(crate) pairs: &'a [Pair],
+    /// The pairs of the rules inside their domains.
+    pub(crate) listed: &'a Listing,
     /// What settling knows of goals.
     pub(crate) settle_memo: &'a mut SettleMemo,
     /// What is known of the choices at goals.
@@ -96,10 +96,10 @@ pub(crate) struct Plans<'a, S> {
 }
 
 impl<'a, S: FnMut(&Constraint) -> Result<Option<Cert>, FmEnd>> Tree for Plans<'a, S> {
-    ghost use Rattle.std.specs.Prelude.{List};
+    ghost use Rattle.std.specs.Prelude.{◌≡◌, List};
     ghost use Rattle.rx_search.specs.Calls.{node_of};
     ghost use Rattle.rx_search.specs.NodeNodes as nodes;
-    ghost use Rattle.rx_pairs.specs.Pairs.{AreAllPairs};
+    ghost use Rattle.rx_pairs.specs.Inside.{listing};
     ghost use Rattle.rx_row.specs.declared.row.Row.{Row};
     ghost use Rattle.rx_search.specs.Known.{AreRight};
     ghost use Rattle.rx_search.specs.Nodes.{IsNode, Problem};
@@ -122,7 +122,7 @@ impl<'a, S: FnMut(&Constraint) -> Result<Option<Cert>, FmEnd>> Tree for Plans<'a
     } };
 
     ghost ready = { λ p. IsSolver S.FnMut p.solve.now × AreLoopPoints p.rules.now p.points.now ×
-        AreAllPairs p.rules.now.rules p.pairs.now × AreKnown p.rules.now p.settle_memo.now ×
+        (p.listed.now ≡ listing p.rules.now p.rules.now.rules) × AreKnown p.rules.now p.settle_memo.now ×
         AreRight p.rules.now p.choice_memo.now };
 
     ghost View = { nodes.Node };
@@ -151,7 +151,7 @@ impl<'a, S: FnMut(&Constraint) -> Result<Option<Cert>, FmEnd>> Tree for Plans<'a
             self.alloc,
             self.rules,
             node,
-            self.pairs,
+            self.listed,
             self.rank_memo,
             self.choice_memo,
             self.solve,

@@ -5,22 +5,28 @@ ghost use Rattle.rx_cover.specs.Covering.{Covers, covering};
 ghost use Rattle.rx_find_cover.specs.Answers.{AreSmall};
 ghost use Rattle.rx_find_cover.specs.Coverable.{is_coverable};
 ghost use Rattle.rx_proofs.specs.Goals.{IsFitting};
-ghost use Rattle.rx_log.specs.Acceptance.{IsAccepted};
-ghost use Rattle.rx_log.specs.Depth.{is_shallow_log};
+ghost use Rattle.rx_domain.specs.Setting.{with_domains};
+ghost use Rattle.rx_log.specs.Acceptance.{Accepted, IsAccepted, verdict_over};
+ghost use Rattle.rx_log.specs.Depth.{are_shallow_keeps, is_shallow_log};
+ghost use Rattle.rx_search.specs.Beginning.{Over, beginning};
+ghost use Rattle.rx_search.specs.Begun.{AreFound, IsInside, IsReady, rows_of};
 ghost use Rattle.rx_search.specs.Calls.{node_of};
-ghost use Rattle.rx_pairs.specs.Pairs.{AreAllPairs, HasRoot, SidesFit};
+ghost use Rattle.rx_pairs.specs.Inside.{listing};
+ghost use Rattle.rx_pairs.specs.Pairs.{HasRoot, SidesFit};
 ghost use Rattle.rx_rank.specs.Ranking.{ranked};
 ghost use Rattle.rx_find_ranks.specs.Found.{HasColumns, LowersAll};
 ghost use Rattle.rx_search.specs.Ends.{IsEnd};
 ghost use Rattle.rx_search.specs.Nodes.{IsNode, IsProved};
-ghost use Rattle.rx_search.specs.Search.{Closed, LargeRanks, of_outcome, searched, settled, menu, start};
+ghost use Rattle.rx_search.specs.Search.{Closed, menu, searched, settled, start, unranked, visited};
 ghost use Rattle.rx_solve.specs.Answers.{IsSolver};
 ghost use Rattle.rx_term.specs.declared.rule.Equation.{Equation};
+ghost use Rattle.rx_term.specs.declared.rule_set.RuleParts.{RuleParts};
 ghost use Rattle.rx_moves.specs.Moves.{move_of};
 ghost use Rattle.rx_deepening.specs.Outcomes.{outcome};
 ghost use Rattle.rx_deepening.specs.Views.{IfClosed, seen_outcome};
 ghost use Rattle.rx_deepening.specs.Visits.{all_visits};
 
+use crate::beginning::{Beginning, Inside, begin, rule_pairs};
 use crate::choices::MOST_STEPS;
 use crate::dropping::dropped;
 use crate::node::{Node, copied_rows};
@@ -29,15 +35,16 @@ use crate::search_end::SearchEnd;
 use rx_cert::Cert;
 use rx_cover::CoverTree;
 use rx_deepening::{Note, Outcome};
+use rx_domain::Domains;
 use rx_find_cover::find_cover;
 use rx_find_ranks::{Ranking, find_ranks_with};
 use rx_fm::FmEnd;
-use rx_has_ranks::{RankMemo, has_ranks_with};
+use rx_has_ranks::RankMemo;
 use rx_inference::Step;
 use rx_log::Log;
 use rx_memo::GoalMemo;
 use rx_moves::LoopPoints;
-use rx_pairs::{Pair, all_pairs};
+use rx_pairs::Listing;
 use rx_plain::{Items, NoMemory, Shared};
 use rx_rank::PairMemo;
 use rx_row::{Constraint, Row};
@@ -50,14 +57,6 @@ use std::marker::Model;
 /// given.
 pub const MOST_KEPT: usize = 32_768;
 
-/// The pairs of the rules. Fails only where there is no memory.
-pub fn rule_pairs(alloc: Global, rules: &RuleSet) -> Result<Vec<Pair>, NoMemory>
-    ensures { IfOk result (λ pairs. AreAllPairs rules.now.rules pairs.items) }
-{
-    let parts = rules.parts();
-    all_pairs(alloc, parts.rules.as_slice(), &[])
-}
-
 /// What the visits of the plans for the goal come to.
 fn visit_plans<S: FnMut(&Constraint) -> Result<Option<Cert>, FmEnd>>(
     alloc: Global,
@@ -66,11 +65,11 @@ fn visit_plans<S: FnMut(&Constraint) -> Result<Option<Cert>, FmEnd>>(
     depth: u32,
     budget: u32,
     most_kept: usize,
-    pairs: &[Pair],
+    listed: &Listing,
     rank_memo: &mut RankMemo,
     solve: &mut S,
 ) -> Result<Outcome<Node, Items<Row>>, NoMemory>
-    requires pairs { AreAllPairs rules.now.rules pairs.now }
+    requires listed { listed.now ≡ listing rules.now rules.now.rules }
     requires fits { IsFitting rules.now goal.now }
     requires ranked { ranked rules.now [] ≡ Yes }
     requires solver { IsSolver S.FnMut solve.old }
@@ -89,7 +88,7 @@ fn visit_plans<S: FnMut(&Constraint) -> Result<Option<Cert>, FmEnd>>(
         rules,
         goal,
         points: &points,
-        pairs,
+        listed,
         settle_memo: &mut settle_memo,
         choice_memo: &mut choice_memo,
         rank_memo,
@@ -166,8 +165,9 @@ fn log_with(
 }
 
 /// The log of steps that lead from a goal to no goal, where there are ranks with the hypotheses
-/// that they kept. It is accepted for the rules and the goal; no certificate and no tree in it is
-/// deeper than 200, and its rank table has 1 to 15 columns. Fails only where there is no memory.
+/// that they kept. It has no domains, and is accepted for the goal and the rules with the domains
+/// that these have; no certificate and no tree in it is deeper than 200, and its rank table has 1 to
+/// 15 columns. Fails only where there is no memory.
 pub fn log_of<S: FnMut(&Constraint) -> Result<Option<Cert>, FmEnd>>(
     alloc: Global,
     rules: &RuleSet,
@@ -176,14 +176,14 @@ pub fn log_of<S: FnMut(&Constraint) -> Result<Option<Cert>, FmEnd>>(
     memo: &mut RankMemo,
     solve: &mut S,
 ) -> Result<Log, NoMemory>
-    requires no_domains { rules.now.domains ≡ [] }
     requires coverable { is_coverable rules.now ≡ true }
     requires proved { (goal : Equation) × IsProved rules.now goal steps.now hypotheses.now }
     requires solver { IsSolver S.FnMut solve.old }
     ensures solver { IsSolver S.FnMut solve.new }
     ensures steps { IfOk result (λ log. log.steps ≡ steps.now) }
     ensures accepted { (goal : Equation) → IsProved rules.now goal steps.now hypotheses.now →
-        IfOk result (IsAccepted rules.now goal) }
+        IfOk result (λ log. verdict_over rules.now goal log ≡ Accepted) }
+    ensures bare { IfOk result (λ log. log.domains ≡ None) }
     ensures shallow { IfOk result (λ log. is_shallow_log log ≡ true) }
     ensures columns { IfOk result (λ log. HasColumns log.table) }
 {
@@ -194,37 +194,40 @@ pub fn log_of<S: FnMut(&Constraint) -> Result<Option<Cert>, FmEnd>>(
     }
 }
 
-/// What the visits of the plans come to, as a log or as an end.
-fn visit<S: FnMut(&Constraint) -> Result<Option<Cert>, FmEnd>>(
+/// Searches for a proof over rules that have ranks, whose pairs are listed: the visits alone, at most
+/// `budget` of them, of nodes with at most `depth` choices on a path, of which at most `most_kept`
+/// are kept from one list of visits to the next. Tests of pairs are kept in the memo.
+///
+/// The answer is a log without domains, which is accepted for the goal and the rules with the domains
+/// that these have; no certificate and no tree in it is deeper than 200, and its rank table has 1 to
+/// 15 columns. `NoPlan`, `Spent` and `Large` are as of `Search::search`.
+pub fn search_over<S: FnMut(&Constraint) -> Result<Option<Cert>, FmEnd>>(
     alloc: Global,
     rules: &RuleSet,
+    listed: &Listing,
     goal: &Equation,
     depth: u32,
     budget: u32,
     most_kept: usize,
-    pairs: &[Pair],
     memo: &mut RankMemo,
     solve: &mut S,
 ) -> Result<Log, SearchEnd>
-    requires no_domains { rules.now.domains ≡ [] }
-    requires coverable { is_coverable rules.now ≡ true }
-    requires pairs { AreAllPairs rules.now.rules pairs.now }
+    requires ready { IsReady rules.now }
+    requires listed { listed.now ≡ listing rules.now rules.now.rules }
     requires fits { IsFitting rules.now goal.now }
-    requires ranked { ranked rules.now [] ≡ Yes }
     requires solver { IsSolver S.FnMut solve.old }
     ensures solver { IsSolver S.FnMut solve.new }
-    ensures steps { IfOk result (λ log. of_outcome
-        (outcome budget (all_visits (settled rules.now) (menu rules.now) depth
-        (start goal.now))) ≡ Closed (map move_of log.steps)) }
-    ensures accepted { IfOk result (λ log. IsAccepted rules.now goal.now log) }
+    ensures steps { IfOk result (λ log. visited rules.now goal.now depth budget ≡
+        Closed (map move_of log.steps)) }
+    ensures accepted { IfOk result (λ log. verdict_over rules.now goal.now log ≡ Accepted) }
+    ensures bare { IfOk result (λ log. log.domains ≡ None) }
     ensures shallow { IfOk result (λ log. is_shallow_log log ≡ true) }
     ensures columns { IfOk result (λ log. HasColumns log.table) }
     ensures ends { IfErr result (λ e. IsEnd depth budget
-        (of_outcome (outcome budget (all_visits (settled rules.now) (menu rules.now) depth
-        (start goal.now)))) e) }
+        (visited rules.now goal.now depth budget) e) }
 {
     let outcome = visit_plans(
-        alloc, rules, goal, depth, budget, most_kept, pairs, memo, solve,
+        alloc, rules, goal, depth, budget, most_kept, listed, memo, solve,
     )?;
     match outcome {
         Outcome::Closed(node) => {
@@ -240,14 +243,91 @@ fn visit<S: FnMut(&Constraint) -> Result<Option<Cert>, FmEnd>>(
     }
 }
 
-/// How a search ends where the limits are passed on the way to the ranks of the rules: with the
+/// How a search ends that begins nowhere: where the limits are passed on the way to ranks, with the
 /// rows of the goal.
-fn large_at(alloc: Global, goal: &Equation) -> SearchEnd
-    ensures { (depth budget : ℕ) → IsEnd depth budget (LargeRanks goal.now.rows) result }
+pub fn unranked_end(alloc: Global, noted: bool, goal: &Equation) -> SearchEnd
+    ensures { (depth budget : ℕ) → IsEnd depth budget (unranked noted goal.now) result }
 {
+    if !noted {
+        return SearchEnd::NoRanks;
+    }
     match copied_rows(alloc, goal.rows.rows()) {
         Ok(rows) => SearchEnd::LargeRanks { rows },
         Err(NoMemory) => SearchEnd::NoMemory,
+    }
+}
+
+/// The log with these domains.
+fn with_domains(log: Log, domains: Domains) -> Log
+    ensures same { result ≡ record log { domains = Some domains } }
+    ensures accepted { (parts : RuleParts) → (goal : Equation) → AreFound parts goal domains →
+        verdict_over (with_domains parts domains.rows) goal log ≡ Accepted →
+        IsAccepted parts goal result }
+    ensures shallow { is_shallow_log log ≡ true → are_shallow_keeps (Some domains) ≡ true →
+        is_shallow_log result ≡ true }
+{
+    let Log {
+        covers,
+        steps,
+        table,
+        pairs,
+        ..
+    } = log;
+    Log {
+        domains: Some(domains),
+        covers,
+        steps,
+        table,
+        pairs,
+    }
+}
+
+/// The log with the domains of the set that it is accepted over. For the rules and the goal that these
+/// were found for, a log that is accepted over that set is accepted with them.
+pub fn log_inside(log: Log, inside: Inside) -> Log
+    ensures same { result ≡ record log { domains = Some inside.domains } }
+    ensures accepted { (parts : RuleParts) → (goal : Equation) → IsInside parts goal inside →
+        verdict_over inside.rules goal log ≡ Accepted → IsAccepted parts goal result }
+    ensures shallow { is_shallow_log log ≡ true → are_shallow_keeps (Some inside.domains) ≡ true →
+        is_shallow_log result ≡ true }
+{
+    let Inside { domains, .. } = inside;
+    with_domains(log, domains)
+}
+
+/// Searches inside domains as `search_over` does; the log has the domains.
+fn search_inside<S: FnMut(&Constraint) -> Result<Option<Cert>, FmEnd>>(
+    alloc: Global,
+    inside: Inside,
+    goal: &Equation,
+    depth: u32,
+    budget: u32,
+    most_kept: usize,
+    memo: &mut RankMemo,
+    solve: &mut S,
+) -> Result<Log, SearchEnd>
+    requires ready { IsReady inside.rules }
+    requires listed { inside.listed ≡ listing inside.rules inside.rules.rules }
+    requires fits { IsFitting inside.rules goal.now }
+    requires solver { IsSolver S.FnMut solve.old }
+    ensures solver { IsSolver S.FnMut solve.new }
+    ensures steps { IfOk result (λ log. visited inside.rules goal.now depth budget ≡
+        Closed (map move_of log.steps)) }
+    ensures accepted { (parts : RuleParts) → IsInside parts goal.now inside →
+        IfOk result (IsAccepted parts goal.now) }
+    ensures shallow { are_shallow_keeps (Some inside.domains) ≡ true →
+        IfOk result (λ log. is_shallow_log log ≡ true) }
+    ensures domains { IfOk result (λ log. log.domains ≡ Some inside.domains) }
+    ensures columns { IfOk result (λ log. HasColumns log.table) }
+    ensures ends { IfErr result (λ e. IsEnd depth budget
+        (visited inside.rules goal.now depth budget) e) }
+{
+    let Inside { rules, listed, .. } = &inside;
+    match search_over(
+        alloc, rules, listed, goal, depth, budget, most_kept, memo, solve,
+    ) {
+        Ok(log) => Ok(log_inside(log, inside)),
+        Err(end) => Err(dropped(inside, end)),
     }
 }
 
@@ -257,7 +337,7 @@ fn large_at(alloc: Global, goal: &Equation) -> SearchEnd
 pub fn search_with<S: FnMut(&Constraint) -> Result<Option<Cert>, FmEnd>>(
     alloc: Global,
     rules: &RuleSet,
-    pairs: &[Pair],
+    listed: &Listing,
     goal: &Equation,
     depth: u32,
     budget: u32,
@@ -265,27 +345,30 @@ pub fn search_with<S: FnMut(&Constraint) -> Result<Option<Cert>, FmEnd>>(
     memo: &mut RankMemo,
     solve: &mut S,
 ) -> Result<Log, SearchEnd>
-    requires no_domains { rules.now.domains ≡ [] }
     requires coverable { is_coverable rules.now ≡ true }
-    requires pairs { AreAllPairs rules.now.rules pairs.now }
+    requires listed { listed.now ≡ listing rules.now rules.now.rules }
     requires fits { IsFitting rules.now goal.now }
     requires solver { IsSolver S.FnMut solve.old }
     ensures solver { IsSolver S.FnMut solve.new }
     ensures steps { IfOk result (λ log. searched rules.now goal.now depth budget ≡
         Closed (map move_of log.steps)) }
     ensures accepted { IfOk result (λ log. IsAccepted rules.now goal.now log) }
+    ensures domains { IfOk result (λ log.
+        beginning rules.now goal.now ≡ Over (rows_of log.domains)) }
     ensures shallow { IfOk result (λ log. is_shallow_log log ≡ true) }
     ensures columns { IfOk result (λ log. HasColumns log.table) }
     ensures ends { IfErr result (λ e. IsEnd depth budget
         (searched rules.now goal.now depth budget) e) }
 {
-    match has_ranks_with(alloc, rules, pairs, &[], memo, solve) {
-        Ok(true) => visit(
-            alloc, rules, goal, depth, budget, most_kept, pairs, memo, solve,
+    let begun = begin(alloc, rules, listed, goal, memo, solve)?;
+    match begun {
+        Beginning::Plain => search_over(
+            alloc, rules, listed, goal, depth, budget, most_kept, memo, solve,
         ),
-        Ok(false) => Err(SearchEnd::NoRanks),
-        Err(FmEnd::Large) => Err(large_at(alloc, goal)),
-        Err(FmEnd::NoMemory) => Err(SearchEnd::NoMemory),
+        Beginning::Inside(inside) => search_inside(
+            alloc, inside, goal, depth, budget, most_kept, memo, solve,
+        ),
+        Beginning::Unranked { noted } => Err(unranked_end(alloc, noted, goal)),
     }
 }
 
@@ -329,13 +412,16 @@ impl<S: FnMut(&Constraint) -> Result<Option<Cert>, FmEnd>> Search<S> {
         }
     }
 
-    /// Searches for a proof that both sides of the goal come to the same: nodes are visited by
+    /// Searches for a proof that both sides of the goal come to the same, over the rules where these
+    /// have ranks, and else inside the domains that are found for the goal, where there are ranks:
+    /// nodes are visited by
     /// lists, the first with no choices on a path, the last with at most `depth` of them, and at
     /// most `budget` nodes are visited. The depth is at most 12, and the rules have no domains.
     ///
     /// The answer is a log that is accepted for the rules and the goal; no certificate and no tree
-    /// in it is deeper than 200, and its rank table has 1 to 15 columns. `NoRanks` where the rules
-    /// alone have no ranks, `LargeRanks` where a polynomial passed the limits on the way to them;
+    /// in it is deeper than 200, and its rank table has 1 to 15 columns. It has domains exactly where
+    /// the search went inside them. `NoRanks` where there are no ranks, neither of the rules alone
+    /// nor inside domains, `LargeRanks` where a polynomial passed the limits on the way to them;
     /// `NoPlan` where all lists are visited and no node is closed; `Spent`
     /// where there are more nodes than the budget; `Large`, before these two, where a polynomial
     /// passed the limits at a node that was visited. Each of these says exactly that; `NoMemory`
@@ -357,6 +443,8 @@ impl<S: FnMut(&Constraint) -> Result<Option<Cert>, FmEnd>> Search<S> {
         ensures steps { IfOk result (λ log. searched rules.now goal.now depth budget ≡
             Closed (map move_of log.steps)) }
         ensures accepted { IfOk result (λ log. IsAccepted rules.now goal.now log) }
+        ensures domains { IfOk result (λ log.
+            beginning rules.now goal.now ≡ Over (rows_of log.domains)) }
         ensures shallow { IfOk result (λ log. is_shallow_log log ≡ true) }
         ensures columns { IfOk result (λ log. HasColumns log.table) }
         ensures ends { IfErr result (λ e. IsEnd depth budget
@@ -364,11 +452,11 @@ impl<S: FnMut(&Constraint) -> Result<Option<Cert>, FmEnd>> Search<S> {
     {
         let mut memo = RankMemo::new(alloc);
         let most_kept = self.most_kept;
-        let pairs = rule_pairs(alloc, rules)?;
+        let listed = rule_pairs(alloc, rules)?;
         search_with(
             alloc,
             rules,
-            pairs.as_slice(),
+            &listed,
             goal,
             depth,
             budget,

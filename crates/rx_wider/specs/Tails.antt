@@ -1,8 +1,11 @@
 -- Lemmas on tail calls. A tail call leaves a frame that gives back what it gets: that the frame over
--- the call equals the call takes it away.
+-- the call equals the call takes it away. Inside domains the lemma has the rows that put its sides
+-- inside.
 use Rattle.std.specs.Prelude.{◌++◌, ◌&&◌, ◌==◌, if◌then◌else◌, Bool, true, Option, Some, None, List, [], ◌∷◌, length, option_and_then, unwrap_or}
 use Rattle.std.specs.List.{fold, list_any}
+use Rattle.rx_plain.specs.Formed.{Formed, ◌<$>◌}
 use Rattle.rx_poly.specs.declared.body.Body.{Body}
+use Rattle.rx_term.specs.Domains.{inside_of}
 use Rattle.rx_term.specs.Stacks.{root_of}
 use Rattle.rx_term.specs.declared.rule.Equation.{Equation}
 use Rattle.rx_term.specs.declared.rule.Rule.{Rule}
@@ -10,6 +13,7 @@ use Rattle.rx_term.specs.declared.rule_set.RuleParts.{RuleParts}
 use Rattle.rx_term.specs.declared.term.Sym.{Sym}
 use Rattle.rx_term.specs.declared.term.Term.{Term, Term-F, out-Term}
 use Rattle.rx_term.specs.declared.term.Term.TheVariants as term
+use Rattle.rx_inference.specs.Pieces.{with_rows}
 use Rattle.rx_inference.specs.States.{State}
 use Rattle.rx_inference.specs.declared.step.Side.TheVariants.{Left, Right}
 use Rattle.rx_moves.specs.Moves.{Move, Expand, Postulate}
@@ -54,6 +58,11 @@ if_inside parts root t = if is_with parts t.call.0 root then Some t else None
 abbrev pub tail_call_of : RuleParts → Rule → Option TailCall
 tail_call_of parts rule =
     option_and_then (if_inside parts (root_of rule.left)) (frame_over_call (out-Term rule.right))
+
+-- the lemma where both its sides are inside the domains: the inside rows of its left, and then of its
+-- right side, each once
+abbrev pub inside_lemma : RuleParts → Equation → Formed Equation
+inside_lemma parts lemma = with_rows lemma <$> inside_of parts lemma
 
 -- the same frame over the same call
 abbrev pub is_same_call : TailCall → TailCall → Bool
@@ -122,9 +131,14 @@ module _ (parts : RuleParts) where
         option_and_then (λ (after : State). with_shown opening lemma (lemma_settled after))
         (expanded_alone opening.hypotheses lemma)) (posed opening lemma)
 
+    -- so of a lemma whose rows keep the limits
+    abbrev pub shown_within : Opening → Formed Equation → Option Opening
+    shown_within opening lemma = if lemma.within then shown opening lemma.form else None
+
     -- otherwise nothing of it is done
     abbrev pub with_lemma : Opening → TailCall → Opening
-    with_lemma opening t = unwrap_or (shown opening t.lemma) opening
+    with_lemma opening t =
+        unwrap_or (shown_within opening (inside_lemma parts t.lemma)) opening
 
     -- the lemmas of all tail calls, in order
     abbrev pub with_lemmas : Opening → Opening

@@ -1,9 +1,12 @@
 -- What the wider search comes to: the moves of the first closed node. The visits start from the goal
--- behind the lemmas on tail calls, and then from the goal without its rows.
-use Rattle.std.specs.Prelude.{ℕ, ◌==◌, if◌then◌else◌, min, Option, Some, None, List, [], ◌∷◌, ◌++◌, option_and_then, option_map, slice_get}
-use Rattle.std.specs.List.{filter_map}
+-- behind the lemmas on tail calls, and then from the goal without its rows, where it is inside the
+-- domains without them.
+use Rattle.std.specs.Prelude.{ℕ, ◌==◌, ◌&&◌, Bool, if◌then◌else◌, min, Option, Some, None, List, [], ◌∷◌, ◌++◌, option_and_then, option_map, slice_get}
+use Rattle.std.specs.List.{filter_map, list_all}
 use Rattle.std.specs.Option.{option_map_or, option_or}
 use Rattle.rx_row.specs.declared.row.Row.{Row}
+use Rattle.rx_cert.specs.Conditions.{is_plain_row}
+use Rattle.rx_term.specs.Domains.{inside_of}
 use Rattle.rx_term.specs.declared.rule.Equation.{Equation}
 use Rattle.rx_term.specs.declared.rule.Rule.{Rule}
 use Rattle.rx_term.specs.declared.rule_set.RuleParts.{RuleParts}
@@ -84,14 +87,26 @@ nothing = record { moves = []; hypotheses = [] }
 abbrev pub bare : Equation → Equation
 bare goal = record goal { rows = [] }
 
+-- nothing has to be shown for the rows to hold, even under none
+abbrev pub are_plain : List Row → Bool
+are_plain rows = list_all (is_plain_row []) rows
+
 module _ (parts : RuleParts) where
-  -- the opening of the goal without its rows: it is generalised to that
-  abbrev pub bare_opening : Equation → Option Opening
-  bare_opening goal =
+  -- so of the rows that put the sides of the goal inside the domains; these keep the limits
+  abbrev pub is_inside_bare : Equation → Bool
+  is_inside_bare goal = (inside_of parts goal).within && are_plain (inside_of parts goal).form
+
+  -- the goal is generalised to the same sides without rows
+  abbrev pub generalised_bare : Equation → Option Opening
+  generalised_bare goal =
       option_map (λ (state : State). record {
         moves = Generalise (bare goal) [] ∷ [];
         hypotheses = state.hypotheses;
       }) (after_moves parts (goal_under [] goal) (Generalise (bare goal) [] ∷ []))
+
+  -- the opening of the goal without its rows, where it is inside without them
+  abbrev pub bare_opening : Equation → Option Opening
+  bare_opening goal = if is_inside_bare goal then generalised_bare goal else None
 
   module _ (depth budget : ℕ) where
     -- the moves of the first closed node among the first visits

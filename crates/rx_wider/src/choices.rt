@@ -2,7 +2,7 @@
 ghost use Rattle.std.specs.Prelude.{◌≡◌, ◌++◌, All, IfOk, IfSome, OnOk, map, option_map, option_to_list};
 ghost use Rattle.std.specs.List.{filter_map};
 ghost use Rattle.rx_deepening.specs.Views.{seen_choice};
-ghost use Rattle.rx_pairs.specs.Pairs.{AreAllPairs};
+ghost use Rattle.rx_pairs.specs.Inside.{listing};
 ghost use Rattle.rx_solve.specs.Answers.{IsSolver};
 ghost use Rattle.rx_term.specs.declared.rule.Equation.{Equation};
 ghost use Rattle.rx_wider.specs.Calls.{node_of};
@@ -18,7 +18,7 @@ use rx_cert::Cert;
 use rx_deepening::Choice;
 use rx_fm::FmEnd;
 use rx_has_ranks::RankMemo;
-use rx_pairs::Pair;
+use rx_pairs::Listing;
 use rx_plain::{Items, NoMemory};
 use rx_row::Constraint;
 use rx_term::RuleSet;
@@ -30,13 +30,13 @@ fn lead<S: FnMut(&Constraint) -> Result<Option<Cert>, FmEnd>>(
     rules: &RuleSet,
     node: &Node,
     candidate: &Candidate,
-    pairs: &[Pair],
+    pairs: &Listing,
     memo: &mut RankMemo,
     solve: &mut S,
 ) -> Result<Option<Node>, NoMemory>
     requires node { (goal : Equation) × IsNode rules.now goal node.now }
     requires can { CanBeTried rules.now candidate.now }
-    requires pairs { AreAllPairs rules.now.rules pairs.now }
+    requires pairs { pairs.now ≡ listing rules.now rules.now.rules }
     requires solver { IsSolver S.FnMut solve.old }
     ensures solver { IsSolver S.FnMut solve.new }
     ensures led { IfOk result (λ found. option_map node_of found ≡
@@ -64,13 +64,13 @@ fn add_choice<S: FnMut(&Constraint) -> Result<Option<Cert>, FmEnd>>(
     node: &Node,
     candidate: &Candidate,
     found: &mut Items<Choice<Node>>,
-    pairs: &[Pair],
+    pairs: &Listing,
     memo: &mut RankMemo,
     solve: &mut S,
 ) -> Result<(), NoMemory>
     requires node { (goal : Equation) × IsNode rules.now goal node.now }
     requires can { CanBeTried rules.now candidate.now }
-    requires pairs { AreAllPairs rules.now.rules pairs.now }
+    requires pairs { pairs.now ≡ listing rules.now rules.now.rules }
     requires solver { IsSolver S.FnMut solve.old }
     ensures solver { IsSolver S.FnMut solve.new }
     ensures added { OnOk result (map (seen_choice node_of) found.new ≡
@@ -95,13 +95,13 @@ pub(crate) fn find_choices<S: FnMut(&Constraint) -> Result<Option<Cert>, FmEnd>>
     rules: &RuleSet,
     node: &Node,
     candidates: &[Candidate],
-    pairs: &[Pair],
+    pairs: &Listing,
     memo: &mut RankMemo,
     solve: &mut S,
 ) -> Result<Items<Choice<Node>>, NoMemory>
     requires node { (goal : Equation) × IsNode rules.now goal node.now }
     requires can { All (CanBeTried rules.now) candidates.now }
-    requires pairs { AreAllPairs rules.now.rules pairs.now }
+    requires pairs { pairs.now ≡ listing rules.now rules.now.rules }
     requires solver { IsSolver S.FnMut solve.old }
     ensures solver { IsSolver S.FnMut solve.new }
     ensures choices { IfOk result (λ found. map (seen_choice node_of) found ≡

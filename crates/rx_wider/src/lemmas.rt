@@ -4,7 +4,7 @@ ghost use Rattle.std.specs.List.{fold};
 ghost use Rattle.rx_inference.specs.States as states;
 ghost use Rattle.rx_moves.specs.LoopPoints.{AreLoopPoints};
 ghost use Rattle.rx_moves.specs.Moves.{Expand, Postulate, move_of};
-ghost use Rattle.rx_pairs.specs.Pairs.{AreAllPairs};
+ghost use Rattle.rx_pairs.specs.Inside.{listing};
 ghost use Rattle.rx_settle.specs.Known.{AreKnown};
 ghost use Rattle.rx_solve.specs.Answers.{IsSolver};
 ghost use Rattle.rx_term.specs.declared.rule.Equation.{Equation};
@@ -13,6 +13,7 @@ ghost use Rattle.rx_wider.specs.Reached.{IsBegun, IsPosed, IsSettledLemma, Poses
 ghost use Rattle.rx_wider.specs.Tails as spec;
 
 use crate::dropping::dropped;
+use crate::inside::inside_lemma;
 use crate::node::steps_after;
 use crate::opening::{Begun, Setting};
 use crate::ranks::is_ranked;
@@ -23,6 +24,7 @@ use rx_fm::FmEnd;
 use rx_has_ranks::RankMemo;
 use rx_inference::{Side, Step};
 use rx_plain::{Items, NoMemory};
+use rx_poly::PolyEnd;
 use rx_row::Constraint;
 use rx_settle::{SettleMemo, Tasked, append_steps, settle_tasks};
 use rx_steps::State;
@@ -97,7 +99,8 @@ fn expand_lemma<S: FnMut(&Constraint) -> Result<Option<Cert>, FmEnd>>(
 ) -> Result<Option<Walked>, NoMemory>
     requires alone { (goal : Equation) × (begun.now.state.goals ≡ goal ∷ []) }
     requires posed { IsPosed setting.now.rules.now begun.now.state.hypotheses lemma.now }
-    requires pairs { AreAllPairs setting.now.rules.now.rules setting.now.pairs.now }
+    requires pairs { setting.now.pairs.now ≡
+        listing setting.now.rules.now setting.now.rules.now.rules }
     requires solver { IsSolver S.FnMut solve.old }
     ensures solver { IsSolver S.FnMut solve.new }
     ensures expanded { IfOk result
@@ -211,7 +214,8 @@ fn show_lemma<S: FnMut(&Constraint) -> Result<Option<Cert>, FmEnd>>(
 ) -> Result<Option<Begun>, NoMemory>
     requires begun { (from : Equation) × IsBegun setting.now.rules.now from goal.now begun.now }
     requires points { AreLoopPoints setting.now.rules.now setting.now.points.now }
-    requires pairs { AreAllPairs setting.now.rules.now.rules setting.now.pairs.now }
+    requires pairs { setting.now.pairs.now ≡
+        listing setting.now.rules.now setting.now.rules.now.rules }
     requires known { AreKnown setting.now.rules.now memo.old }
     requires solver { IsSolver S.FnMut solve.old }
     ensures known { AreKnown setting.now.rules.now memo.new }
@@ -235,6 +239,38 @@ fn show_lemma<S: FnMut(&Constraint) -> Result<Option<Cert>, FmEnd>>(
     Ok(Some(next))
 }
 
+/// The opening with the lemma inside the domains, where that is shown; it isn't where one of its rows
+/// passes the limits.
+fn show_inside<S: FnMut(&Constraint) -> Result<Option<Cert>, FmEnd>>(
+    setting: &Setting<'_>,
+    begun: &Begun,
+    goal: &Equation,
+    lemma: &Equation,
+    ranks: &mut RankMemo,
+    memo: &mut SettleMemo,
+    solve: &mut S,
+) -> Result<Option<Begun>, NoMemory>
+    requires begun { (from : Equation) × IsBegun setting.now.rules.now from goal.now begun.now }
+    requires points { AreLoopPoints setting.now.rules.now setting.now.points.now }
+    requires pairs { setting.now.pairs.now ≡
+        listing setting.now.rules.now setting.now.rules.now.rules }
+    requires known { AreKnown setting.now.rules.now memo.old }
+    requires solver { IsSolver S.FnMut solve.old }
+    ensures known { AreKnown setting.now.rules.now memo.new }
+    ensures solver { IsSolver S.FnMut solve.new }
+    ensures shown { IfOk result (λ o. option_map opening_of o ≡
+        spec.shown_within setting.now.rules.now goal.now (opening_of begun.now)
+        (spec.inside_lemma setting.now.rules.now lemma.now)) }
+    ensures begun { (from : Equation) → IsBegun setting.now.rules.now from goal.now begun.now →
+        IfOk result (λ o. IfSome o (IsBegun setting.now.rules.now from goal.now)) }
+{
+    match inside_lemma(setting.alloc, setting.rules, lemma) {
+        Ok(inside) => show_lemma(setting, begun, goal, &inside, ranks, memo, solve),
+        Err(PolyEnd::Large) => Ok(None),
+        Err(PolyEnd::NoMemory) => Err(NoMemory),
+    }
+}
+
 /// The opening with the lemma, or as it was.
 fn with_lemma<S: FnMut(&Constraint) -> Result<Option<Cert>, FmEnd>>(
     setting: &Setting<'_>,
@@ -247,7 +283,8 @@ fn with_lemma<S: FnMut(&Constraint) -> Result<Option<Cert>, FmEnd>>(
 ) -> Result<Begun, NoMemory>
     requires begun { (from : Equation) × IsBegun setting.now.rules.now from goal.now begun }
     requires points { AreLoopPoints setting.now.rules.now setting.now.points.now }
-    requires pairs { AreAllPairs setting.now.rules.now.rules setting.now.pairs.now }
+    requires pairs { setting.now.pairs.now ≡
+        listing setting.now.rules.now setting.now.rules.now.rules }
     requires known { AreKnown setting.now.rules.now memo.old }
     requires solver { IsSolver S.FnMut solve.old }
     ensures known { AreKnown setting.now.rules.now memo.new }
@@ -257,7 +294,7 @@ fn with_lemma<S: FnMut(&Constraint) -> Result<Option<Cert>, FmEnd>>(
     ensures begun { (from : Equation) → IsBegun setting.now.rules.now from goal.now begun →
         IfOk result (IsBegun setting.now.rules.now from goal.now) }
 {
-    match show_lemma(setting, &begun, goal, &tail.lemma, ranks, memo, solve) {
+    match show_inside(setting, &begun, goal, &tail.lemma, ranks, memo, solve) {
         Ok(Some(next)) => Ok(dropped(begun, next)),
         Ok(None) => Ok(begun),
         Err(NoMemory) => Err(dropped(begun, NoMemory)),
@@ -276,7 +313,8 @@ pub(crate) fn with_lemmas<S: FnMut(&Constraint) -> Result<Option<Cert>, FmEnd>>(
 ) -> Result<Begun, NoMemory>
     requires begun { (from : Equation) × IsBegun setting.now.rules.now from goal.now begun }
     requires points { AreLoopPoints setting.now.rules.now setting.now.points.now }
-    requires pairs { AreAllPairs setting.now.rules.now.rules setting.now.pairs.now }
+    requires pairs { setting.now.pairs.now ≡
+        listing setting.now.rules.now setting.now.rules.now.rules }
     requires known { AreKnown setting.now.rules.now memo.old }
     requires solver { IsSolver S.FnMut solve.old }
     ensures known { AreKnown setting.now.rules.now memo.new }

@@ -11,6 +11,7 @@ mod candidates;
 mod choices;
 mod dropping;
 mod explorer;
+mod inside;
 mod keeping;
 mod known;
 mod lemmas;

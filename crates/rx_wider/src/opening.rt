@@ -6,7 +6,7 @@ ghost use Rattle.rx_steps.specs.Alone.{alone};
 use crate::node::{MOST_STEPS, Node};
 use rx_inference::Step;
 use rx_moves::LoopPoints;
-use rx_pairs::Pair;
+use rx_pairs::Listing;
 use rx_plain::{Items, NoMemory, Shared};
 use rx_settle::Tasked;
 use rx_steps::State;
@@ -22,8 +22,8 @@ pub(crate) struct Setting<'a> {
     pub(crate) rules: &'a RuleSet,
     /// The loop points of the rules.
     pub(crate) points: &'a LoopPoints,
-    /// The pairs of the rules.
-    pub(crate) pairs: &'a [Pair],
+    /// The pairs of the rules inside the domains.
+    pub(crate) pairs: &'a Listing,
 }
 
 /// Where steps lead before the visits: to a goal alone, under the hypotheses that lemmas are.

@@ -1,13 +1,14 @@
 //! Ranks with the hypotheses of a state.
 ghost use Rattle.std.specs.Prelude.{◌≡◌, All, IfOk};
-ghost use Rattle.rx_pairs.specs.Pairs.{AreAllPairs, HasRoot, SidesFit};
+ghost use Rattle.rx_pairs.specs.Inside.{listing};
+ghost use Rattle.rx_pairs.specs.Pairs.{HasRoot, SidesFit};
 ghost use Rattle.rx_solve.specs.Answers.{IsSolver};
 ghost use Rattle.rx_wider.specs.Nodes.{has_ranks, is_fit};
 
 use rx_cert::Cert;
 use rx_fm::FmEnd;
 use rx_has_ranks::{RankMemo, has_ranks_with};
-use rx_pairs::Pair;
+use rx_pairs::Listing;
 use rx_plain::NoMemory;
 use rx_row::Constraint;
 use rx_steps::State;
@@ -18,12 +19,12 @@ use std::alloc::Global;
 pub(crate) fn is_ranked<S: FnMut(&Constraint) -> Result<Option<Cert>, FmEnd>>(
     alloc: Global,
     rules: &RuleSet,
-    pairs: &[Pair],
+    pairs: &Listing,
     state: &State,
     memo: &mut RankMemo,
     solve: &mut S,
 ) -> Result<bool, NoMemory>
-    requires pairs { AreAllPairs rules.now.rules pairs.now }
+    requires pairs { pairs.now ≡ listing rules.now rules.now.rules }
     requires roots { All HasRoot state.now.hypotheses }
     requires fits { All (SidesFit rules.now) state.now.hypotheses }
     requires solver { IsSolver S.FnMut solve.old }
@@ -41,13 +42,13 @@ pub(crate) fn is_ranked<S: FnMut(&Constraint) -> Result<Option<Cert>, FmEnd>>(
 pub(crate) fn is_fit<S: FnMut(&Constraint) -> Result<Option<Cert>, FmEnd>>(
     alloc: Global,
     rules: &RuleSet,
-    pairs: &[Pair],
+    pairs: &Listing,
     keeps: bool,
     state: &State,
     memo: &mut RankMemo,
     solve: &mut S,
 ) -> Result<bool, NoMemory>
-    requires pairs { AreAllPairs rules.now.rules pairs.now }
+    requires pairs { pairs.now ≡ listing rules.now rules.now.rules }
     requires roots { All HasRoot state.now.hypotheses }
     requires fits { All (SidesFit rules.now) state.now.hypotheses }
     requires solver { IsSolver S.FnMut solve.old }

@@ -5,7 +5,7 @@ ghost use Rattle.rx_deepening.specs.Outcomes.{outcome};
 ghost use Rattle.rx_deepening.specs.Views.{IfClosed, seen_outcome};
 ghost use Rattle.rx_deepening.specs.Visits.{all_visits};
 ghost use Rattle.rx_moves.specs.LoopPoints.{AreLoopPoints};
-ghost use Rattle.rx_pairs.specs.Pairs.{AreAllPairs};
+ghost use Rattle.rx_pairs.specs.Inside.{listing};
 ghost use Rattle.rx_proofs.specs.Goals.{IsFitting};
 ghost use Rattle.rx_rank.specs.Ranking.{ranked};
 ghost use Rattle.rx_solve.specs.Answers.{IsSolver};
@@ -15,6 +15,7 @@ ghost use Rattle.rx_wider.specs.Reached.{IsBegun, IsClosedNode, IsNode, StartsAt
 ghost use Rattle.rx_wider.specs.Wider as spec;
 
 use crate::explorer::Explorer;
+use crate::inside::is_inside_bare;
 use crate::lemmas::with_lemmas;
 use crate::node::Node;
 use crate::opening::{Begun, Setting};
@@ -28,7 +29,7 @@ use rx_has_ranks::RankMemo;
 use rx_inference::Step;
 use rx_memo::GoalMemo;
 use rx_moves::LoopPoints;
-use rx_pairs::Pair;
+use rx_pairs::Listing;
 use rx_plain::{Items, NoMemory};
 use rx_row::Constraint;
 use rx_settle::{SettleMemo, shared_steps};
@@ -63,7 +64,7 @@ fn visit_tree<S: FnMut(&Constraint) -> Result<Option<Cert>, FmEnd>>(
     alloc: Global,
     rules: &RuleSet,
     points: &LoopPoints,
-    pairs: &[Pair],
+    pairs: &Listing,
     from: &Equation,
     tails: &[Rule],
     start: Node,
@@ -73,7 +74,7 @@ fn visit_tree<S: FnMut(&Constraint) -> Result<Option<Cert>, FmEnd>>(
 ) -> Result<Outcome<Node, ()>, NoMemory>
     requires start { IsNode rules.now from.now start }
     requires points { AreLoopPoints rules.now points.now }
-    requires pairs { AreAllPairs rules.now.rules pairs.now }
+    requires pairs { pairs.now ≡ listing rules.now rules.now.rules }
     requires solver { IsSolver S.FnMut solve.old }
     ensures solver { IsSolver S.FnMut solve.new }
     ensures outcome { IfOk result (λ o. seen_outcome node_of o ≡
@@ -116,7 +117,8 @@ fn visit_behind<S: FnMut(&Constraint) -> Result<Option<Cert>, FmEnd>>(
 ) -> Result<Option<Node>, NoMemory>
     requires begun { (goal : Equation) × IsBegun setting.now.rules.now from.now goal begun }
     requires points { AreLoopPoints setting.now.rules.now setting.now.points.now }
-    requires pairs { AreAllPairs setting.now.rules.now.rules setting.now.pairs.now }
+    requires pairs { setting.now.pairs.now ≡
+        listing setting.now.rules.now setting.now.rules.now.rules }
     requires solver { IsSolver S.FnMut solve.old }
     ensures solver { IsSolver S.FnMut solve.new }
     ensures found { (goal : Equation) → IsBegun setting.now.rules.now from.now goal begun →
@@ -156,7 +158,8 @@ fn visit_from<S: FnMut(&Constraint) -> Result<Option<Cert>, FmEnd>>(
 ) -> Result<Option<Node>, NoMemory>
     requires begun { IsBegun setting.now.rules.now from.now goal.now begun }
     requires points { AreLoopPoints setting.now.rules.now setting.now.points.now }
-    requires pairs { AreAllPairs setting.now.rules.now.rules setting.now.pairs.now }
+    requires pairs { setting.now.pairs.now ≡
+        listing setting.now.rules.now setting.now.rules.now.rules }
     requires solver { IsSolver S.FnMut solve.old }
     ensures solver { IsSolver S.FnMut solve.new }
     ensures found { IfOk result (λ o. option_map moves_of o ≡
@@ -206,7 +209,7 @@ fn generalising(alloc: Global, to: &Equation) -> Result<Step, NoMemory>
 }
 
 /// The opening of the goal without its rows, where the goal can be generalised to that.
-fn begin_bare<S: FnMut(&Constraint) -> Result<Option<Cert>, FmEnd>>(
+fn generalise_bare<S: FnMut(&Constraint) -> Result<Option<Cert>, FmEnd>>(
     setting: &Setting<'_>,
     goal: &Equation,
     to: &Equation,
@@ -217,7 +220,7 @@ fn begin_bare<S: FnMut(&Constraint) -> Result<Option<Cert>, FmEnd>>(
     requires solver { IsSolver S.FnMut solve.old }
     ensures solver { IsSolver S.FnMut solve.new }
     ensures opening { IfOk result (λ o. option_map opening_of o ≡
-        spec.bare_opening setting.now.rules.now goal.now) }
+        spec.generalised_bare setting.now.rules.now goal.now) }
     ensures begun { IfOk result (λ o.
         IfSome o (IsBegun setting.now.rules.now goal.now to.now)) }
 {
@@ -233,6 +236,30 @@ fn begin_bare<S: FnMut(&Constraint) -> Result<Option<Cert>, FmEnd>>(
     }
 }
 
+/// The opening of the goal without its rows, where it is inside the domains without them, and can be
+/// generalised to that.
+fn begin_bare<S: FnMut(&Constraint) -> Result<Option<Cert>, FmEnd>>(
+    setting: &Setting<'_>,
+    goal: &Equation,
+    to: &Equation,
+    solve: &mut S,
+) -> Result<Option<Begun>, NoMemory>
+    requires bare { to.now ≡ spec.bare goal.now }
+    requires start { StartsAt setting.now.rules.now goal.now }
+    requires solver { IsSolver S.FnMut solve.old }
+    ensures solver { IsSolver S.FnMut solve.new }
+    ensures opening { IfOk result (λ o. option_map opening_of o ≡
+        spec.bare_opening setting.now.rules.now goal.now) }
+    ensures begun { IfOk result (λ o.
+        IfSome o (IsBegun setting.now.rules.now goal.now to.now)) }
+{
+    if is_inside_bare(setting.alloc, setting.rules, goal)? {
+        generalise_bare(setting, goal, to, solve)
+    } else {
+        Ok(None)
+    }
+}
+
 /// The first closed node among the visits from the goal without its rows.
 fn visit_bare<S: FnMut(&Constraint) -> Result<Option<Cert>, FmEnd>>(
     setting: &Setting<'_>,
@@ -243,7 +270,8 @@ fn visit_bare<S: FnMut(&Constraint) -> Result<Option<Cert>, FmEnd>>(
 ) -> Result<Option<Node>, NoMemory>
     requires start { StartsAt setting.now.rules.now goal.now }
     requires points { AreLoopPoints setting.now.rules.now setting.now.points.now }
-    requires pairs { AreAllPairs setting.now.rules.now.rules setting.now.pairs.now }
+    requires pairs { setting.now.pairs.now ≡
+        listing setting.now.rules.now setting.now.rules.now.rules }
     requires solver { IsSolver S.FnMut solve.old }
     ensures solver { IsSolver S.FnMut solve.new }
     ensures found { IfOk result (λ o. option_map moves_of o ≡
@@ -270,7 +298,8 @@ fn visit_both<S: FnMut(&Constraint) -> Result<Option<Cert>, FmEnd>>(
 ) -> Result<Option<Node>, NoMemory>
     requires start { StartsAt setting.now.rules.now goal.now }
     requires points { AreLoopPoints setting.now.rules.now setting.now.points.now }
-    requires pairs { AreAllPairs setting.now.rules.now.rules setting.now.pairs.now }
+    requires pairs { setting.now.pairs.now ≡
+        listing setting.now.rules.now setting.now.rules.now.rules }
     requires solver { IsSolver S.FnMut solve.old }
     ensures solver { IsSolver S.FnMut solve.new }
     ensures found { IfOk result (λ o. option_map moves_of o ≡
@@ -291,7 +320,8 @@ fn visit_both<S: FnMut(&Constraint) -> Result<Option<Cert>, FmEnd>>(
 /// Searches for what both sides of the goal keep while they are unfolded side by side: nodes are
 /// visited by lists, the first with no choices on a path, the last with at most `depth` of them,
 /// and at most `budget` nodes are visited, and at most 200. Where none of them is closed and the
-/// goal has rows, they are visited from the goal without its rows in the same way.
+/// goal has rows, but is inside the domains without them, with nothing to be shown for that, they
+/// are visited from the goal without its rows in the same way.
 ///
 /// The answer is the first closed node: its steps lead from the goal to no goal, no certificate is
 /// deeper than 174, and there are ranks with the hypotheses that it kept. None exactly where there
@@ -300,7 +330,7 @@ fn visit_both<S: FnMut(&Constraint) -> Result<Option<Cert>, FmEnd>>(
 pub fn wider_search<S: FnMut(&Constraint) -> Result<Option<Cert>, FmEnd>>(
     alloc: Global,
     rules: &RuleSet,
-    pairs: &[Pair],
+    pairs: &Listing,
     goal: &Equation,
     depth: u32,
     budget: u32,
@@ -309,7 +339,7 @@ pub fn wider_search<S: FnMut(&Constraint) -> Result<Option<Cert>, FmEnd>>(
 ) -> Result<Option<Node>, NoMemory>
     requires fits { IsFitting rules.now goal.now }
     requires ranked { ranked rules.now [] ≡ Yes }
-    requires pairs { AreAllPairs rules.now.rules pairs.now }
+    requires pairs { pairs.now ≡ listing rules.now rules.now.rules }
     requires solver { IsSolver S.FnMut solve.old }
     ensures solver { IsSolver S.FnMut solve.new }
     ensures found { IfOk result (λ o. option_map moves_of o ≡

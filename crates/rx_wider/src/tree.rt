@@ -3,7 +3,7 @@
 ghost use Rattle.std.specs.Prelude.{◌≡◌, ◌++◌, All, None, IfOk};
 ghost use Rattle.rx_deepening.specs.Views.{seen_menu, seen_settled};
 ghost use Rattle.rx_moves.specs.LoopPoints.{AreLoopPoints};
-ghost use Rattle.rx_pairs.specs.Pairs.{AreAllPairs};
+ghost use Rattle.rx_pairs.specs.Inside.{listing};
 ghost use Rattle.rx_settle.specs.Known.{AreKnown};
 ghost use Rattle.rx_settle.specs.Tasks.{descendants};
 ghost use Rattle.rx_solve.specs.Answers.{IsSolver};
@@ -22,7 +22,7 @@ use rx_cert::Cert;
 use rx_deepening::{Menu, Settled, Tree};
 use rx_fm::FmEnd;
 use rx_has_ranks::RankMemo;
-use rx_pairs::Pair;
+use rx_pairs::Listing;
 use rx_plain::{Items, NoMemory};
 use rx_row::Constraint;
 use rx_settle::{TaskedSteps, append_steps, settle_tasks};
@@ -92,13 +92,14 @@ fn settle_node<S: FnMut(&Constraint) -> Result<Option<Cert>, FmEnd>>(
 fn find_menu<S: FnMut(&Constraint) -> Result<Option<Cert>, FmEnd>>(
     alloc: Global,
     node: &Node,
-    pairs: &[Pair],
+    pairs: &Listing,
     ranks: &mut RankMemo,
     known: &mut CandidateMemo,
     explorer: &mut Explorer<'_, S>,
 ) -> Result<Menu<Node, ()>, NoMemory>
     requires node { (goal : Equation) × IsNode explorer.old.rules.now goal node.now }
-    requires pairs { AreAllPairs explorer.old.rules.now.rules pairs.now }
+    requires pairs { pairs.now ≡
+        listing explorer.old.rules.now explorer.old.rules.now.rules }
     requires known { AreChoices explorer.old.rules.now
         (descendants explorer.old.rules.now explorer.old.tails.now) known.old }
     requires solver { IsSolver S.FnMut explorer.old.solve.now }
@@ -148,8 +149,8 @@ pub(crate) struct WideTree<'a, 'b, S> {
     pub(crate) alloc: Global,
     /// The goal from which the first steps lead.
     pub(crate) goal: &'a Equation,
-    /// The pairs of the rules.
-    pub(crate) pairs: &'a [Pair],
+    /// The pairs of the rules inside the domains.
+    pub(crate) pairs: &'a Listing,
     /// What was found out of pairs.
     pub(crate) ranks: &'a mut RankMemo,
     /// What is known of the choices at goals.
@@ -159,8 +160,9 @@ pub(crate) struct WideTree<'a, 'b, S> {
 }
 
 impl<'a, 'b, S: FnMut(&Constraint) -> Result<Option<Cert>, FmEnd>> Tree for WideTree<'a, 'b, S> {
+    ghost use Rattle.std.specs.Prelude.{◌≡◌};
     ghost use Rattle.rx_moves.specs.LoopPoints.{AreLoopPoints};
-    ghost use Rattle.rx_pairs.specs.Pairs.{AreAllPairs};
+    ghost use Rattle.rx_pairs.specs.Inside.{listing};
     ghost use Rattle.rx_settle.specs.Known.{AreKnown};
     ghost use Rattle.rx_settle.specs.Tasks.{descendants};
     ghost use Rattle.rx_solve.specs.Answers.{IsSolver};
@@ -186,7 +188,7 @@ impl<'a, 'b, S: FnMut(&Constraint) -> Result<Option<Cert>, FmEnd>> Tree for Wide
 
     ghost ready = { λ t. IsSolver S.FnMut t.explorer.solve.now ×
         AreLoopPoints t.explorer.rules.now t.explorer.points.now ×
-        AreAllPairs t.explorer.rules.now.rules t.pairs.now ×
+        (t.pairs.now ≡ listing t.explorer.rules.now t.explorer.rules.now.rules) ×
         AreKnown t.explorer.rules.now t.explorer.memo.now ×
         AreChoices t.explorer.rules.now
         (descendants t.explorer.rules.now t.explorer.tails.now) t.known.now };

@@ -12,6 +12,7 @@
 mod answers;
 mod cases;
 mod constraints;
+mod domains;
 mod ends;
 mod high;
 mod lines;
@@ -28,6 +29,7 @@ mod writing;
 pub use answers::{Answer, Meant, compared, equal, integers, nothing, ordered, perhaps, told};
 pub use cases::{BAR, Case, SEMICOLON, case_of, parted, separator_of};
 pub use constraints::{read_constraint, row, rows, written_row, written_rows};
+pub use domains::{domain_fault, take_domains};
 pub use ends::ended;
 pub use high::{has_high, high_variables, meant};
 pub use lines::{Verdict, count_lines, run};

@@ -7,7 +7,8 @@
 //! `unread`, and at the end how many lines hold.
 //!
 //! Equations, rows, polynomials and cover trees have the notation of a log. A line `rules` makes the
-//! rule set of two functions, and a line `set` any; the lines after it speak of that.
+//! rule set of two functions, and a line `set` any, to which `domains` gives these; the lines after
+//! it speak of that.
 #![tactic(auto)]
 
 mod by_solver;
@@ -15,6 +16,7 @@ mod caching;
 mod code_cases;
 mod compile_answers;
 mod counting;
+mod domain_calls;
 mod ends;
 mod finding_answers;
 mod found_answer;
@@ -39,7 +41,9 @@ use rx_term::RuleSet;
 use set_calls::take_rules;
 use std::alloc::Global;
 use std::io;
-use test_lines::{Case, Meant, Verdict, case_of, count_lines, separator_of, take_set};
+use test_lines::{
+    Case, Meant, Verdict, case_of, count_lines, separator_of, take_domains, take_set,
+};
 
 // Whether the call answers what is wanted, over the set of the lines before it; none where that
 // isn't known.
@@ -47,6 +51,7 @@ fn is_answered(alloc: Global, set: &RuleSet, case: &Case<'_>) -> Option<bool> {
     match case.call {
         "cover" | "lowers" | "ranks" => finding_answers::holds(alloc, set, case),
         "beside" | "lemmas" | "named" | "use" => lemma_answers::holds(alloc, set, case),
+        "found" => domain_calls::found(alloc, set, case.given)?.is_meant(alloc, case.wanted),
         "runs" => ran(alloc, set, case.given)?.is_meant(alloc, case.wanted),
         _ => search_answers::holds(alloc, set, case),
     }
@@ -58,6 +63,7 @@ fn holds(alloc: Global, set: &mut Option<RuleSet>, line: &str) -> Option<bool> {
     let case = case_of(line, separator_of(line))?;
     match case.call {
         "set" => take_set(alloc, set, case.given, case.wanted),
+        "domains" => take_domains(alloc, set, case.given, case.wanted),
         "rules" => take_rules(alloc, set, case.given)?.is_meant(alloc, case.wanted),
         _ => match compile_answers::answer_to(alloc, case.call, case.given) {
             Some(found) => found.is_meant(alloc, case.wanted),

@@ -22,11 +22,12 @@ mod pair_calls;
 mod rank_calls;
 mod reading;
 
-use domain_calls::take_domains;
 use rx_term::RuleSet;
 use std::alloc::Global;
 use std::io;
-use test_lines::{Answer, Meant, Verdict, case_of, count_lines, separator_of, take_set};
+use test_lines::{
+    Answer, Meant, Verdict, case_of, count_lines, separator_of, take_domains, take_set,
+};
 
 // What the call answers, over the set of the lines before it; none where the line can't be read, or
 // there is no memory. No two of the tables have a call in common.

@@ -11,11 +11,11 @@ use Rattle.rx_cli.proofs.proving.wider_log.Goals as goal
 
 pub log_of-requires-clause-proved : goal.log_of-requires-clause-proved
 log_of-requires-clause-proved g c = (
-  c.args.problem.now.goal,
-  closed_proved c.args.problem.now.rules c.args.problem.now.goal c.in-Some.node
+  c.args.goal.now,
+  closed_proved c.args.rules.now c.args.goal.now c.in-Some.node
       c.as_slice-steps.result.now c.hypotheses-hypotheses.result.now
       (subst (λ (o : Option Node).
-      IfSome o (IsClosedNode c.args.problem.now.rules c.args.problem.now.goal)) c.in-Some.is
+      IfSome o (IsClosedNode c.args.rules.now c.args.goal.now)) c.in-Some.is
       c.in_ok-found.ensures.closed)
       c.as_slice-steps.ensures c.hypotheses-hypotheses.ensures,
 )
@@ -28,10 +28,10 @@ returns-in_ok-log-in-Some-clause-found g c =
 
 pub returns-in_ok-log-in-Some-clause-accepted : goal.returns-in_ok-log-in-Some-clause-accepted
 returns-in_ok-log-in-Some-clause-accepted g c =
-    c.in_ok-log-in-Some.ensures.accepted c.args.problem.now.goal
-    (closed_proved c.args.problem.now.rules c.args.problem.now.goal c.in-Some.node
+    c.in_ok-log-in-Some.ensures.accepted c.args.goal.now
+    (closed_proved c.args.rules.now c.args.goal.now c.in-Some.node
     c.as_slice-steps.result.now c.hypotheses-hypotheses.result.now
     (subst (λ (o : Option Node).
-    IfSome o (IsClosedNode c.args.problem.now.rules c.args.problem.now.goal)) c.in-Some.is
+    IfSome o (IsClosedNode c.args.rules.now c.args.goal.now)) c.in-Some.is
     c.in_ok-found.ensures.closed)
     c.as_slice-steps.ensures c.hypotheses-hypotheses.ensures)

@@ -1,40 +1,11 @@
--- What is found is lawful and kept.
-use Rattle.std.proofs.Common.{◌≡◌, ◌∙◌, List, None, subst, sym}
+-- The candidates are lawful lists.
+use Rattle.std.proofs.Common.{◌≡◌, None, List, subst, sym}
 use Rattle.rx_row.specs.declared.row.Row.{Row}
-use Rattle.rx_domain.specs.Setting.{bad_domain, with_domains}
-use Rattle.rx_find_domains.specs.Kept.{AreAllKeeps, AreAllShown}
-use Rattle.rx_find_domains.proofs.KeepLaws.{found_shown, keeps_all}
-use Rattle.rx_find_domains.proofs.LawfulLaws.{found_lawful}
+use Rattle.rx_domain.specs.Setting.{bad_domain}
+use Rattle.rx_find_domains.proofs.LawfulLaws.{all_lawful}
 use Rattle.rx_find_domains.proofs.finding.find_domains.Goals as goal
 
-pub find_keeps-requires-clause-lawful : goal.find_keeps-requires-clause-lawful
-find_keeps-requires-clause-lawful g c =
+pub settled_domains-requires-clause-lawful : goal.settled_domains-requires-clause-lawful
+settled_domains-requires-clause-lawful g c =
     subst (λ (lists : List (List Row)). bad_domain c.args.rules.now.symbols lists ≡ None)
-    (sym (c.as_slice.ensures ∙ c.in_ok-rows.ensures.rows))
-    (found_lawful c.args.rules.now c.args.goal.now)
-
-pub find_keeps-requires-clause-shown : goal.find_keeps-requires-clause-shown
-find_keeps-requires-clause-shown g c =
-    subst (λ (lists : List (List Row)). AreAllShown (with_domains c.args.rules.now lists)
-    c.args.goal.now) (sym (c.as_slice.ensures ∙ c.in_ok-rows.ensures.rows))
-    (found_shown c.args.rules.now c.args.goal.now)
-
-pub returns-clause-lawful : goal.returns-clause-lawful
-returns-clause-lawful g c =
-    subst (λ (lists : List (List Row)). bad_domain c.args.rules.now.symbols lists ≡ None)
-    (sym c.in_ok-rows.ensures.rows) (found_lawful c.args.rules.now c.args.goal.now)
-
-pub returns-clause-keeps : goal.returns-clause-keeps
-returns-clause-keeps g c =
-    keeps_all (with_domains c.args.rules.now c.in_ok-rows.rows) c.args.goal.now
-    c.in_ok-keeps.keeps
-    (subst (λ (lists : List (List Row)). AreAllShown (with_domains c.args.rules.now lists)
-    c.args.goal.now) (sym c.in_ok-rows.ensures.rows)
-    (found_shown c.args.rules.now c.args.goal.now))
-    (subst (λ (lists : List (List Row)). AreAllKeeps (with_domains c.args.rules.now lists)
-    c.args.goal.now c.in_ok-keeps.keeps) c.as_slice.ensures c.in_ok-keeps.ensures.keeps)
-
-pub returns-clause-certificates : goal.returns-clause-certificates
-returns-clause-certificates g c =
-    subst (λ (lists : List (List Row)). AreAllKeeps (with_domains c.args.rules.now lists)
-    c.args.goal.now c.in_ok-keeps.keeps) c.as_slice.ensures c.in_ok-keeps.ensures.keeps
+    (sym c.in_ok-lists.ensures) (all_lawful c.args.rules.now c.args.goal.now)

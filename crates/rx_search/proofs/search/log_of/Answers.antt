@@ -1,8 +1,8 @@
 -- The log of a proof is accepted.
-use Rattle.std.proofs.Common.{◌≡◌, ap, subst, sym, true}
+use Rattle.std.proofs.Common.{◌≡◌, None, ap, subst, sym, true}
 use Rattle.std.proofs.lemmas.Result.{IfOk-weaker}
 use Rattle.rx_cover.specs.Covering.{Covers, covering}
-use Rattle.rx_log.specs.Acceptance.{IsAccepted}
+use Rattle.rx_log.specs.Acceptance.{Accepted, verdict_over}
 use Rattle.rx_log.specs.Depth.{is_shallow_log}
 use Rattle.rx_log.specs.declared.log.Log.{Log}
 use Rattle.rx_find_ranks.specs.Found.{HasColumns}
@@ -34,14 +34,19 @@ returns-in-Ok-clause-steps g c =
 
 pub returns-in-Ok-clause-accepted : goal.returns-in-Ok-clause-accepted
 returns-in-Ok-clause-accepted g c = λ goal proof.
-    IfOk-weaker c.log_with.result _ (IsAccepted c.args.rules.now goal)
-    (λ log same. accepted c.args.rules.now c.requires.no_domains goal c.args.steps.now
-    c.args.hypotheses.now log c.in-Ok.ranking proof (ap (λ (log : Log). log.domains) same)
+    IfOk-weaker c.log_with.result _ (λ (log : Log). verdict_over c.args.rules.now goal log ≡ Accepted)
+    (λ log same. accepted c.args.rules.now goal c.args.steps.now
+    c.args.hypotheses.now log c.in-Ok.ranking proof
     (subst (λ lists. covering c.args.rules.now lists ≡ Covers)
     (sym (ap (λ (log : Log). log.covers) same)) c.in_ok-covers.ensures.covers)
     (ap (λ (log : Log). log.steps) same) (ap (λ (log : Log). log.table) same)
     (ap (λ (log : Log). log.pairs) same) c.in-Ok.ensures.lowers)
     c.log_with.ensures
+
+pub returns-in-Ok-clause-bare : goal.returns-in-Ok-clause-bare
+returns-in-Ok-clause-bare g c =
+    IfOk-weaker c.log_with.result _ (λ (log : Log). log.domains ≡ None)
+    (λ log same. ap (λ (log : Log). log.domains) same) c.log_with.ensures
 
 pub returns-in-Ok-clause-shallow : goal.returns-in-Ok-clause-shallow
 returns-in-Ok-clause-shallow g c =

@@ -1,14 +1,114 @@
--- Where a test of ranks passes the limits, the search comes to that, with the rows of the goal.
-use Rattle.std.proofs.Common.{ap, subst, sym}
-use Rattle.rx_cert.specs.Findings.{Said}
+-- What comes of the search over the set that it begins with.
+use Rattle.std.proofs.Common.{◌≡◌, ◌∙◌, None, ap, map, subst, sym}
+use Rattle.std.proofs.lemmas.Result.{IfOk-weaker}
+use Rattle.std.specs.Prelude.{IfErr, IfOk}
+use Rattle.rx_log.specs.declared.log.Log.{Log}
+use Rattle.rx_moves.specs.Moves.{move_of}
+use Rattle.rx_search.specs.Beginning.{Over, Unranked, beginning}
+use Rattle.rx_search.specs.Begun.{IsBegun, rows_of}
 use Rattle.rx_search.specs.Ends.{IsEnd}
-use Rattle.rx_search.specs.Search.{Searched, searched_with}
+use Rattle.rx_search.specs.Search.{Closed}
+use Rattle.rx_search.proofs.BegunLaws.{fits_inside, searched_at, searched_inside}
+use Rattle.rx_search.proofs.Closing.{bare_accepted}
 use Rattle.rx_search.proofs.search.search_with.Goals as goal
 
-pub returns-in-Err-Large-clause-ends : goal.returns-in-Err-Large-clause-ends
-returns-in-Err-Large-clause-ends g c =
-    let a = c.args in
-    let beyond = c.in-Err-Large.ensures.answer c.in-Err-Large.field-0-is in
-    subst (λ (s : Searched). IsEnd a.depth a.budget s c.large_at.result)
-    (sym (ap (λ (said : Said). searched_with said a.rules.now a.goal.now a.depth a.budget) beyond))
-    (c.large_at.ensures a.depth a.budget)
+-- ---- over the rules as they are
+
+pub search_over-requires-clause-ready : goal.search_over-requires-clause-ready
+search_over-requires-clause-ready g c =
+    let is = subst (IsBegun c.args.rules.now c.args.goal.now) c.in-Plain.is
+    c.in_ok-begun.ensures.begun in
+    record { coverable = c.requires.coverable; ranked = is.1 }
+
+pub returns-in-Plain-clause-steps : goal.returns-in-Plain-clause-steps
+returns-in-Plain-clause-steps g c =
+    let is = subst (IsBegun c.args.rules.now c.args.goal.now) c.in-Plain.is
+    c.in_ok-begun.ensures.begun in
+    subst (λ s. IfOk c.search_over.result (λ (log : Log). s ≡ Closed (map move_of log.steps)))
+    (sym (searched_at c.args.rules.now c.args.goal.now (Over None) c.args.depth c.args.budget is.0))
+    c.search_over.ensures.steps
+
+pub returns-in-Plain-clause-accepted : goal.returns-in-Plain-clause-accepted
+returns-in-Plain-clause-accepted g c =
+    bare_accepted c.args.rules.now c.args.goal.now c.search_over.result
+    c.search_over.ensures.accepted c.search_over.ensures.bare
+
+pub returns-in-Plain-clause-domains : goal.returns-in-Plain-clause-domains
+returns-in-Plain-clause-domains g c =
+    let is = subst (IsBegun c.args.rules.now c.args.goal.now) c.in-Plain.is
+    c.in_ok-begun.ensures.begun in
+    IfOk-weaker c.search_over.result _
+    (λ (log : Log). beginning c.args.rules.now c.args.goal.now ≡ Over (rows_of log.domains))
+    (λ log none. is.0 ∙ ap (λ d. Over (rows_of d)) (sym none)) c.search_over.ensures.bare
+
+pub returns-in-Plain-clause-ends : goal.returns-in-Plain-clause-ends
+returns-in-Plain-clause-ends g c =
+    let is = subst (IsBegun c.args.rules.now c.args.goal.now) c.in-Plain.is
+    c.in_ok-begun.ensures.begun in
+    subst (λ s. IfErr c.search_over.result (IsEnd c.args.depth c.args.budget s))
+    (sym (searched_at c.args.rules.now c.args.goal.now (Over None) c.args.depth c.args.budget is.0))
+    c.search_over.ensures.ends
+
+-- ---- inside domains
+
+pub search_inside-requires-clause-ready : goal.search_inside-requires-clause-ready
+search_inside-requires-clause-ready g c =
+    let is = subst (IsBegun c.args.rules.now c.args.goal.now) c.in-Inside.is
+    c.in_ok-begun.ensures.begun in is.2
+
+pub search_inside-requires-clause-listed : goal.search_inside-requires-clause-listed
+search_inside-requires-clause-listed g c =
+    let is = subst (IsBegun c.args.rules.now c.args.goal.now) c.in-Inside.is
+    c.in_ok-begun.ensures.begun in is.1.listed
+
+pub search_inside-requires-clause-fits : goal.search_inside-requires-clause-fits
+search_inside-requires-clause-fits g c =
+    let is = subst (IsBegun c.args.rules.now c.args.goal.now) c.in-Inside.is
+    c.in_ok-begun.ensures.begun in
+    fits_inside c.args.rules.now c.args.goal.now c.in-Inside.inside is.1 c.requires.fits
+
+pub returns-in-Inside-clause-steps : goal.returns-in-Inside-clause-steps
+returns-in-Inside-clause-steps g c =
+    let is = subst (IsBegun c.args.rules.now c.args.goal.now) c.in-Inside.is
+    c.in_ok-begun.ensures.begun in
+    subst (λ s. IfOk c.search_inside.result (λ (log : Log). s ≡ Closed (map move_of log.steps)))
+    (sym (searched_inside c.args.rules.now c.args.goal.now c.in-Inside.inside c.args.depth
+    c.args.budget is.1 is.0)) c.search_inside.ensures.steps
+
+pub returns-in-Inside-clause-accepted : goal.returns-in-Inside-clause-accepted
+returns-in-Inside-clause-accepted g c =
+    let is = subst (IsBegun c.args.rules.now c.args.goal.now) c.in-Inside.is
+    c.in_ok-begun.ensures.begun in
+    c.search_inside.ensures.accepted c.args.rules.now is.1
+
+pub returns-in-Inside-clause-domains : goal.returns-in-Inside-clause-domains
+returns-in-Inside-clause-domains g c =
+    let is = subst (IsBegun c.args.rules.now c.args.goal.now) c.in-Inside.is
+    c.in_ok-begun.ensures.begun in
+    IfOk-weaker c.search_inside.result _
+    (λ (log : Log). beginning c.args.rules.now c.args.goal.now ≡ Over (rows_of log.domains))
+    (λ log same. is.0 ∙ ap (λ d. Over (rows_of d)) (sym same)) c.search_inside.ensures.domains
+
+pub returns-in-Inside-clause-shallow : goal.returns-in-Inside-clause-shallow
+returns-in-Inside-clause-shallow g c =
+    let is = subst (IsBegun c.args.rules.now c.args.goal.now) c.in-Inside.is
+    c.in_ok-begun.ensures.begun in
+    c.search_inside.ensures.shallow is.1.found.shallow
+
+pub returns-in-Inside-clause-ends : goal.returns-in-Inside-clause-ends
+returns-in-Inside-clause-ends g c =
+    let is = subst (IsBegun c.args.rules.now c.args.goal.now) c.in-Inside.is
+    c.in_ok-begun.ensures.begun in
+    subst (λ s. IfErr c.search_inside.result (IsEnd c.args.depth c.args.budget s))
+    (sym (searched_inside c.args.rules.now c.args.goal.now c.in-Inside.inside c.args.depth
+    c.args.budget is.1 is.0)) c.search_inside.ensures.ends
+
+-- ---- nowhere
+
+pub returns-in-Unranked-clause-ends : goal.returns-in-Unranked-clause-ends
+returns-in-Unranked-clause-ends g c =
+    let is = subst (IsBegun c.args.rules.now c.args.goal.now) c.in-Unranked.is
+    c.in_ok-begun.ensures.begun in
+    subst (λ s. IsEnd c.args.depth c.args.budget s c.unranked_end.result)
+    (sym (searched_at c.args.rules.now c.args.goal.now (Unranked c.in-Unranked.noted) c.args.depth
+    c.args.budget is)) (c.unranked_end.ensures c.args.depth c.args.budget)

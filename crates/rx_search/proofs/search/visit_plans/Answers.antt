@@ -7,7 +7,7 @@ pub search-requires-clause-ready : goal.search-requires-clause-ready
 search-requires-clause-ready g c = (
   c.requires.solver,
   c.in_ok-points.ensures,
-  c.requires.pairs,
+  c.requires.listed,
   c.in_ok-settle_memo.ensures c.args.rules.now,
   none_right c.args.rules.now c.in_ok-choice_memo.choice_memo c.in_ok-choice_memo.ensures,
 )

@@ -4,7 +4,7 @@ use Rattle.rx_inference.specs.declared.step.Step.TheVariants as steps
 use Rattle.rx_wider.specs.Tails.{goal_under}
 use Rattle.rx_wider.proofs.BareLaws.{bare_begun}
 use Rattle.rx_wider.proofs.Walking.{taken_as}
-use Rattle.rx_wider.proofs.search.begin_bare.Goals as goal
+use Rattle.rx_wider.proofs.search.generalise_bare.Goals as goal
 
 pub returns-in_ok-shared_steps-in-Some-clause-begun :
     goal.returns-in_ok-shared_steps-in-Some-clause-begun

@@ -1,12 +1,12 @@
 -- The first closed node has no goals left, and its log is the answer.
-use Rattle.std.proofs.Common.{◌∙◌, ap, subst, sym}
-use Rattle.rx_log.specs.Acceptance.{IsAccepted}
+use Rattle.std.proofs.Common.{◌≡◌, ◌∙◌, ap, subst, sym}
+use Rattle.rx_log.specs.Acceptance.{Accepted, verdict_over}
 use Rattle.rx_log.specs.declared.log.Log.{Log}
 use Rattle.rx_find_ranks.specs.Found.{HasColumns}
 use Rattle.rx_search.specs.Nodes.{IsNode}
 use Rattle.rx_search.specs.Search.{start}
 use Rattle.rx_search.proofs.Closing.{closed_goals, closed_node, closed_steps, node_proved}
-use Rattle.rx_search.proofs.search.visit.Goals as goal
+use Rattle.rx_search.proofs.search.search_over.Goals as goal
 
 pub log_of-requires-clause-proved : goal.log_of-requires-clause-proved
 log_of-requires-clause-proved g c = (
@@ -30,7 +30,8 @@ returns-in-Ok-clause-steps g c =
 
 pub returns-in-Ok-clause-accepted : goal.returns-in-Ok-clause-accepted
 returns-in-Ok-clause-accepted g c =
-    subst (IsAccepted c.args.rules.now c.args.goal.now) (sym c.dropped.ensures)
+    subst (λ (log : Log). verdict_over c.args.rules.now c.args.goal.now log ≡ Accepted)
+    (sym c.dropped.ensures)
     (c.in-Ok.ensures.accepted c.args.goal.now
     (node_proved c.args.rules.now c.args.goal.now c.in-Closed.node c.as_slice-steps.result.now
     c.hypotheses.result.now
@@ -43,3 +44,6 @@ returns-in-Ok-clause-accepted g c =
 pub returns-in-Ok-clause-columns : goal.returns-in-Ok-clause-columns
 returns-in-Ok-clause-columns g c =
     subst (λ (log : Log). HasColumns log.table) (sym c.dropped.ensures) c.in-Ok.ensures.columns
+
+pub returns-in-Ok-clause-bare : goal.returns-in-Ok-clause-bare
+returns-in-Ok-clause-bare g c = ap (λ (log : Log). log.domains) c.dropped.ensures ∙ c.in-Ok.ensures.bare

@@ -1,0 +1,112 @@
+-- Where a search begins, and what it comes to from there.
+use Rattle.std.proofs.Common.{if◌then◌else◌, ◌≡◌, ℕ, Bool, true, false, Some, List, [], ◌∷◌, sym, ap, subst, ◌∙◌, refl}
+use Rattle.std.proofs.lemmas.Bool.{and_from}
+use Rattle.std.specs.List.{AllZip, list_all}
+use Rattle.rx_row.specs.declared.row.Row.{Row}
+use Rattle.rx_cert.specs.Findings.{Said}
+use Rattle.rx_cert.specs.declared.cert.Cert.{Cert}
+use Rattle.rx_domain.specs.Keeping.{KeptPart, parts_kept}
+use Rattle.rx_domain.specs.Setting.{with_domains}
+use Rattle.rx_domain.specs.declared.domains.Domains.{Domains}
+use Rattle.rx_find_cover.specs.Coverable.{is_coverable}
+use Rattle.rx_find_domains.specs.Finding.{found_domains}
+use Rattle.rx_find_domains.specs.Kept.{AreAllKeeps, AreKeeps}
+use Rattle.rx_log.specs.Depth.{are_shallow, are_shallow_keeps}
+use Rattle.rx_pairs.specs.Inside.{listing}
+use Rattle.rx_proofs.specs.Goals.{IsFitting}
+use Rattle.rx_rank.specs.Ranking.{ranked}
+use Rattle.rx_term.specs.declared.rule.Equation.{Equation}
+use Rattle.rx_term.specs.declared.rule_set.RuleParts.{RuleParts}
+use Rattle.rx_search.specs.Beginning.{Over, Unranked, beginning, begun_by, begun_inside, begun_over, by_ranks}
+use Rattle.rx_search.specs.Beginning as beginnings
+use Rattle.rx_search.specs.Begun.{AreFound, BeginsWith, IsBegun, IsInside}
+use Rattle.rx_search.specs.Search.{searched, searched_from, visited}
+use Rattle.rx_search.specs.declared.beginning.Beginning.{Beginning}
+use Rattle.rx_search.specs.declared.beginning.Beginning.TheVariants as begun
+use Rattle.rx_search.specs.declared.beginning.Inside.{Inside}
+use Rattle.rx_search.proofs.Shallow.{certs_shallow}
+
+-- ---- domains
+
+-- certificates by which parts keep the domains are no deeper than a text allows
+keeps_shallow : (parts : List KeptPart) (lists : List (List Cert)) → AllZip AreKeeps parts lists →
+    list_all are_shallow lists ≡ true
+keeps_shallow [] [] are = refl
+keeps_shallow [] (certs ∷ lists) are = absurd are
+keeps_shallow (p ∷ parts) [] are = absurd are
+keeps_shallow (p ∷ parts) (certs ∷ lists) are =
+    and_from (are_shallow certs) (list_all are_shallow lists) (certs_shallow certs are.0.deep)
+    (keeps_shallow parts lists are.1)
+
+pub domains_shallow : (parts : RuleParts) (goal : Equation) (domains : Domains)
+    → AreAllKeeps (with_domains parts domains.rows) goal domains.keeps
+    → are_shallow_keeps (Some domains) ≡ true
+domains_shallow parts goal domains are =
+    keeps_shallow (parts_kept (with_domains parts domains.rows) goal) domains.keeps are
+
+-- the set with them, whose pairs are listed
+pub inside_is : (parts : RuleParts) (goal : Equation) (domains : Domains) (set : RuleParts)
+    (inside : Inside) → AreFound parts goal domains → set ≡ with_domains parts domains.rows
+    → inside ≡ record { rules = set; domains = domains; listed = listing set set.rules }
+    → IsInside parts goal inside
+inside_is parts goal domains set inside found is same =
+    subst (IsInside parts goal) (sym same) (record { found = found; set = is; listed = refl })
+
+-- ---- where a search begins
+
+-- a set that isn't coverable
+pub begun_uncovered : (parts : RuleParts) (noted : Bool) (rows : List (List Row)) →
+    is_coverable parts ≡ false → Unranked noted ≡ begun_over parts noted rows
+begun_uncovered parts noted rows is =
+    ap (λ b. if b then by_ranks noted rows (ranked parts []) else Unranked noted) (sym is)
+
+-- one that is
+pub begun_covered : (parts : RuleParts) (noted : Bool) (rows : List (List Row)) (said : Said) →
+    is_coverable parts ≡ true → ranked parts [] ≡ said →
+    by_ranks noted rows said ≡ begun_over parts noted rows
+begun_covered parts noted rows said is ranks =
+    ap (by_ranks noted rows) (sym ranks)
+    ∙ ap (λ b. if b then by_ranks noted rows (ranked parts []) else Unranked noted) (sym is)
+
+module _ (parts : RuleParts) (goal : Equation) where
+  pub begins : (said : Said) → ranked parts [] ≡ said → beginning parts goal ≡ begun_by said parts goal
+  unfolding beginning
+  begins said is = ap (λ s. begun_by s parts goal) is
+
+  -- the set that it begins with is that of the domains that are found
+  pub begins_over : (noted : Bool) (inside : Inside) → IsInside parts goal inside →
+      begun_inside parts noted (found_domains parts goal) ≡
+      begun_over inside.rules noted inside.domains.rows
+  begins_over noted inside is =
+      ap (begun_inside parts noted) (sym is.found.rows)
+      ∙ ap (λ set. begun_over set noted inside.domains.rows) (sym is.set)
+
+  pub begun_is : (noted : Bool) (inside : Inside) (b : Beginning) → IsInside parts goal inside →
+      beginning parts goal ≡ begun_inside parts noted (found_domains parts goal) →
+      BeginsWith inside noted b → IsBegun parts goal b
+  begun_is noted inside begun.Plain is from with = absurd with
+  begun_is noted inside (begun.Inside other) is from with =
+      subst (λ (i : Inside). IsBegun parts goal (begun.Inside i)) (sym with.0)
+      (from ∙ begins_over noted inside is ∙ with.2, is, with.1)
+  begun_is noted inside (begun.Unranked now) is from with =
+      from ∙ begins_over noted inside is ∙ with
+
+  -- ---- what a search comes to
+
+  pub searched_at : (b : beginnings.Beginning) (depth budget : ℕ) → beginning parts goal ≡ b →
+      searched parts goal depth budget ≡ searched_from b parts goal depth budget
+  searched_at b depth budget is = ap (λ b. searched_from b parts goal depth budget) is
+
+  pub searched_inside : (inside : Inside) (depth budget : ℕ) → IsInside parts goal inside →
+      beginning parts goal ≡ Over (Some inside.domains.rows) →
+      searched parts goal depth budget ≡ visited inside.rules goal depth budget
+  searched_inside inside depth budget is from =
+      searched_at (Over (Some inside.domains.rows)) depth budget from
+      ∙ ap (λ set. visited set goal depth budget) (sym is.set)
+
+  -- domains don't say which terms fit
+  pub fits_inside : (inside : Inside) → IsInside parts goal inside → IsFitting parts goal →
+      IsFitting inside.rules goal
+  fits_inside inside is fits =
+      subst (λ set. IsFitting set goal) (sym is.set)
+      (record { left = fits.left; right = fits.right })

@@ -1,0 +1,56 @@
+-- Where a search begins: over the rules as they are, where they have ranks; else inside the domains
+-- that are found for the goal, where the rules with these are coverable and have ranks.
+use Rattle.std.specs.Prelude.{if◌then◌else◌, Bool, true, false, Option, Some, None, List, []}
+use Rattle.rx_row.specs.declared.row.Row.{Row}
+use Rattle.rx_cert.specs.Findings.{Said, Yes, No, Beyond}
+use Rattle.rx_domain.specs.Setting.{with_domains}
+use Rattle.rx_find_cover.specs.Coverable.{is_coverable}
+use Rattle.rx_find_domains.specs.Finding.{found_domains}
+use Rattle.rx_rank.specs.Ranking.{ranked}
+use Rattle.rx_term.specs.declared.rule.Equation.{Equation}
+use Rattle.rx_term.specs.declared.rule_set.RuleParts.{RuleParts}
+
+-- over the rules, inside these domains if there are some; or nowhere, as no set has ranks, and
+-- whether something passed the limits on the way to them
+pub data Beginning : Type 0 where
+  Over : Option (List (List Row)) → Beginning
+  Unranked : Bool → Beginning
+
+-- inside the domains, by whether there are ranks there
+abbrev pub by_ranks : Bool → List (List Row) → Said → Beginning
+by_ranks noted rows Yes = Over (Some rows)
+by_ranks noted rows No = Unranked noted
+by_ranks noted rows Beyond = Unranked true
+
+-- the rules with their domains; what passes the limits where their cover is looked for counts for
+-- nothing
+abbrev pub begun_over : RuleParts → Bool → List (List Row) → Beginning
+begun_over parts noted rows =
+    if is_coverable parts then by_ranks noted rows (ranked parts []) else Unranked noted
+
+abbrev pub begun_inside : RuleParts → Bool → List (List Row) → Beginning
+begun_inside parts noted rows = begun_over (with_domains parts rows) noted rows
+
+-- by whether the rules alone have ranks
+abbrev pub begun_by : Said → RuleParts → Equation → Beginning
+begun_by Yes parts goal = Over None
+begun_by No parts goal = begun_inside parts false (found_domains parts goal)
+begun_by Beyond parts goal = begun_inside parts true (found_domains parts goal)
+
+unfoldable pub beginning : RuleParts → Equation → Beginning
+beginning parts goal = begun_by (ranked parts []) parts goal
+
+-- ---- the set that is searched over
+
+-- the rules, with these domains if there are some
+abbrev pub set_of : RuleParts → Option (List (List Row)) → RuleParts
+set_of parts None = parts
+set_of parts (Some rows) = with_domains parts rows
+
+abbrev pub set_begun : RuleParts → Beginning → RuleParts
+set_begun parts (Over rows) = set_of parts rows
+set_begun parts (Unranked noted) = parts
+
+-- where a search begins nowhere, the rules as they are
+abbrev pub used_set : RuleParts → Equation → RuleParts
+used_set parts goal = set_begun parts (beginning parts goal)

@@ -1,0 +1,213 @@
+//! Where a search begins: over the rules, or inside the domains that are found for the goal.
+ghost use Rattle.std.specs.Prelude.{◌≡◌, [], IfOk, None};
+ghost use Rattle.rx_domain.specs.Setting.{bad_domain, with_domains};
+ghost use Rattle.rx_find_cover.specs.Coverable.{is_coverable};
+ghost use Rattle.rx_pairs.specs.Inside.{listing};
+ghost use Rattle.rx_search.specs.Beginning.{beginning, begun_inside, begun_over};
+ghost use Rattle.rx_search.specs.Begun.{AreFound, BeginsWith, IsBegun, IsInside, IsReady, begun_unless};
+ghost use Rattle.rx_find_domains.specs.Finding.{found_domains};
+ghost use Rattle.rx_solve.specs.Answers.{IsSolver};
+
+use crate::dropping::dropped;
+use rx_cert::Cert;
+use rx_domain::{DomainEnd, Domains, set_domains};
+use rx_find_cover::find_cover;
+use rx_find_domains::find_domains;
+use rx_fm::FmEnd;
+use rx_has_ranks::{RankMemo, has_ranks_with};
+use rx_pairs::{Listing, listed_pairs};
+use rx_plain::NoMemory;
+use rx_row::Constraint;
+use rx_term::{Equation, RuleSet};
+use std::alloc::Global;
+
+/// The rules with domains, as a search goes over them.
+#[derive(Drop)]
+pub struct Inside {
+    /// The rules with these domains.
+    pub rules: RuleSet,
+    /// The domains that are found for the goal, and why they are kept.
+    pub domains: Domains,
+    /// The pairs of the rules inside the domains.
+    pub listed: Listing,
+}
+
+/// Where a search begins.
+#[derive(Drop)]
+pub enum Beginning {
+    /// Over the rules as they are: these have ranks.
+    Plain,
+    /// Inside the domains that are found: the rules alone have no ranks, and inside these domains
+    /// they have, and are coverable.
+    Inside(Inside),
+    /// Nowhere: there are no ranks, neither of the rules alone nor inside domains.
+    Unranked {
+        /// Whether something passed the limits on the way to ranks.
+        noted: bool,
+    },
+}
+
+/// The pairs of the rules inside their domains. Fails only where there is no memory.
+pub fn rule_pairs(alloc: Global, rules: &RuleSet) -> Result<Listing, NoMemory>
+    ensures { IfOk result (λ listed. listed ≡ listing rules.now rules.now.rules) }
+{
+    listed_pairs(alloc, rules, &[])
+}
+
+/// The rules with these domains, which are lawful.
+fn set_inside(alloc: Global, rules: &RuleSet, rows: &[Constraint]) -> Result<RuleSet, NoMemory>
+    requires { bad_domain rules.now.symbols rows.now ≡ None }
+    ensures { IfOk result (λ set. set ≡ with_domains rules.now rows.now) }
+{
+    match set_domains(alloc, rules, rows) {
+        Ok(set) => Ok(set),
+        Err(DomainEnd::NoMemory) => Err(NoMemory),
+        Err(DomainEnd::BadDomain(_) | DomainEnd::NotKept(_) | DomainEnd::Large(_)) => {
+            unreachable!()
+        }
+    }
+}
+
+/// The rules with domains, once their pairs are listed.
+fn listed_inside(alloc: Global, rules: RuleSet, domains: Domains) -> Result<Inside, NoMemory>
+    ensures { IfOk result (λ inside. inside ≡ record {
+      rules = rules;
+      domains = domains;
+      listed = listing rules rules.rules;
+    }) }
+{
+    match rule_pairs(alloc, &rules) {
+        Ok(listed) => Ok(Inside {
+            rules,
+            domains,
+            listed,
+        }),
+        Err(NoMemory) => Err(dropped((rules, domains), NoMemory)),
+    }
+}
+
+/// The rules with domains that are found for a goal.
+fn inside_of(
+    alloc: Global,
+    rules: &RuleSet,
+    goal: &Equation,
+    domains: Domains,
+) -> Result<Inside, NoMemory>
+    requires { AreFound rules.now goal.now domains }
+    ensures { IfOk result (IsInside rules.now goal.now) }
+{
+    match set_inside(alloc, rules, domains.rows.as_slice()) {
+        Ok(set) => listed_inside(alloc, set, domains),
+        Err(NoMemory) => Err(dropped(domains, NoMemory)),
+    }
+}
+
+/// Whether trees are found that cover the rules.
+fn is_covered<S: FnMut(&Constraint) -> Result<Option<Cert>, FmEnd>>(
+    alloc: Global,
+    rules: &RuleSet,
+    solve: &mut S,
+) -> Result<bool, NoMemory>
+    requires solver { IsSolver S.FnMut solve.old }
+    ensures solver { IsSolver S.FnMut solve.new }
+    ensures covered { IfOk result (λ is. is ≡ is_coverable rules.now) }
+{
+    match find_cover(alloc, rules, solve) {
+        Ok(Some(_)) => Ok(true),
+        Ok(None) | Err(FmEnd::Large) => Ok(false),
+        Err(FmEnd::NoMemory) => Err(NoMemory),
+    }
+}
+
+/// None where a search begins inside the domains; else whether something passed the limits on the
+/// way to ranks, as `noted` says of the rules alone.
+fn unless_inside<S: FnMut(&Constraint) -> Result<Option<Cert>, FmEnd>>(
+    alloc: Global,
+    inside: &Inside,
+    noted: bool,
+    memo: &mut RankMemo,
+    solve: &mut S,
+) -> Result<Option<bool>, NoMemory>
+    requires solver { IsSolver S.FnMut solve.old }
+    requires listed { inside.now.listed ≡ listing inside.now.rules inside.now.rules.rules }
+    ensures solver { IsSolver S.FnMut solve.new }
+    ensures ready { IfOk result (λ o. o ≡ None → IsReady inside.now.rules) }
+    ensures begun { IfOk result (λ o. begun_unless o inside.now.domains.rows ≡
+        begun_over inside.now.rules noted inside.now.domains.rows) }
+{
+    let covered = is_covered(alloc, &inside.rules, solve)?;
+    if !covered {
+        return Ok(Some(noted));
+    }
+    match has_ranks_with(alloc, &inside.rules, &inside.listed, &[], memo, solve) {
+        Ok(true) => Ok(None),
+        Ok(false) => Ok(Some(noted)),
+        Err(FmEnd::Large) => Ok(Some(true)),
+        Err(FmEnd::NoMemory) => Err(NoMemory),
+    }
+}
+
+/// Where a search begins with these domains, by whether the limits were passed before.
+fn begin_with<S: FnMut(&Constraint) -> Result<Option<Cert>, FmEnd>>(
+    alloc: Global,
+    inside: Inside,
+    noted: bool,
+    memo: &mut RankMemo,
+    solve: &mut S,
+) -> Result<Beginning, NoMemory>
+    requires solver { IsSolver S.FnMut solve.old }
+    requires listed { inside.listed ≡ listing inside.rules inside.rules.rules }
+    ensures solver { IsSolver S.FnMut solve.new }
+    ensures begun { IfOk result (BeginsWith inside noted) }
+{
+    match unless_inside(alloc, &inside, noted, memo, solve) {
+        Ok(None) => Ok(Beginning::Inside(inside)),
+        Ok(Some(noted)) => Ok(dropped(inside, Beginning::Unranked { noted })),
+        Err(NoMemory) => Err(dropped(inside, NoMemory)),
+    }
+}
+
+/// Where a search begins that doesn't go over the rules as they are.
+fn begin_inside<S: FnMut(&Constraint) -> Result<Option<Cert>, FmEnd>>(
+    alloc: Global,
+    rules: &RuleSet,
+    goal: &Equation,
+    noted: bool,
+    memo: &mut RankMemo,
+    solve: &mut S,
+) -> Result<Beginning, NoMemory>
+    requires solver { IsSolver S.FnMut solve.old }
+    requires begun { beginning rules.now goal.now ≡
+        begun_inside rules.now noted (found_domains rules.now goal.now) }
+    ensures solver { IsSolver S.FnMut solve.new }
+    ensures begun { IfOk result (IsBegun rules.now goal.now) }
+{
+    let domains = find_domains(alloc, rules, goal, solve)?;
+    let inside = inside_of(alloc, rules, goal, domains)?;
+    begin_with(alloc, inside, noted, memo, solve)
+}
+
+/// Where a search for the goal begins: over the rules, whose pairs are listed, where these have
+/// ranks; inside the domains that are found for the goal, where the rules alone have no ranks, and
+/// the rules with these domains are coverable and have ranks; and else nowhere. Tests of pairs are
+/// kept in the memo. Fails only where there is no memory.
+pub fn begin<S: FnMut(&Constraint) -> Result<Option<Cert>, FmEnd>>(
+    alloc: Global,
+    rules: &RuleSet,
+    listed: &Listing,
+    goal: &Equation,
+    memo: &mut RankMemo,
+    solve: &mut S,
+) -> Result<Beginning, NoMemory>
+    requires solver { IsSolver S.FnMut solve.old }
+    requires listed { listed.now ≡ listing rules.now rules.now.rules }
+    ensures solver { IsSolver S.FnMut solve.new }
+    ensures begun { IfOk result (IsBegun rules.now goal.now) }
+{
+    match has_ranks_with(alloc, rules, listed, &[], memo, solve) {
+        Ok(true) => Ok(Beginning::Plain),
+        Ok(false) => begin_inside(alloc, rules, goal, false, memo, solve),
+        Err(FmEnd::Large) => begin_inside(alloc, rules, goal, true, memo, solve),
+        Err(FmEnd::NoMemory) => Err(NoMemory),
+    }
+}
