@@ -3,7 +3,7 @@
 //! Each line of the standard input is a call, what it is given, and what it is to answer, with a
 //! semicolon and a space between them. Polynomials, rows and lists have the notation of a log.
 //! `{3 *v0}` stands for `*v0*v0*v0`. A line that begins with `#` is a heading. A line `set` makes a
-//! rule set, over which the lines after it are.
+//! rule set, over which the lines after it are, and a line `domains` gives it these.
 #![tactic(auto)]
 
 mod kept_calls;
@@ -14,7 +14,8 @@ use rx_term::RuleSet;
 use std::alloc::Global;
 use std::io;
 use test_lines::{
-    Answer, Case, Meant, SEMICOLON, Verdict, case_of, count_lines, parted, take_set, written_out,
+    Answer, Case, Meant, SEMICOLON, Verdict, case_of, count_lines, parted, take_domains, take_set,
+    written_out,
 };
 
 // What the call answers; none where the line can't be read, or there is no memory.
@@ -45,6 +46,7 @@ fn holds(alloc: Global, set: &mut Option<RuleSet>, line: &str) -> Option<bool> {
     let case = case_of(line, SEMICOLON)?;
     match case.call {
         "set" => take_set(alloc, set, case.given, case.wanted),
+        "domains" => take_domains(alloc, set, case.given, case.wanted),
         _ => is_answered(alloc, set, &case),
     }
 }
