@@ -1,6 +1,6 @@
 -- What comes of both searches, by where they begin, how the stated one ends and what the wider one
 -- finds.
-use Rattle.std.proofs.Common.{◌≡◌, ◌∙◌, ℕ, Bool, true, false, Option, Some, None, Result, Ok, Err, List, refl, sym, ap, subst}
+use Rattle.std.proofs.Common.{◌≡◌, ◌∙◌, ℕ, Bool, true, false, Option, Some, None, Result, Ok, Err, List, [], map, refl, sym, ap, subst}
 use Rattle.std.specs.Prelude.{IfOk, IfSome, option_map}
 use Rattle.rx_plain.specs.declared.no_memory.NoMemory.{NoMemory}
 use Rattle.rx_log.specs.Acceptance.{Accepted, IsAccepted, verdict_over}
@@ -8,7 +8,7 @@ use Rattle.rx_log.specs.Depth.{is_shallow_log}
 use Rattle.rx_log.specs.declared.log.Log.{Log}
 use Rattle.rx_logtext.specs.Logs.{IsLog}
 use Rattle.rx_row.specs.declared.row.Row.{Row}
-use Rattle.rx_moves.specs.Moves.{Move}
+use Rattle.rx_moves.specs.Moves.{Move, move_of}
 use Rattle.rx_search.specs.Beginning.{Over, Unranked, beginning, set_begun, set_of}
 use Rattle.rx_search.specs.Begun.{IsInside}
 use Rattle.rx_search.specs.Ends.{IsEnd}

@@ -1,5 +1,5 @@
 //! The search for a proof.
-ghost use Rattle.std.specs.Prelude.{◌≡◌, ◌≤◌, None, true, length, option_map, IfOk, IfSome};
+ghost use Rattle.std.specs.Prelude.{◌≡◌, ◌≤◌, [], None, true, length, option_map, IfOk, IfSome};
 ghost use Rattle.rx_command.specs.Commands.{functions_view, is_short};
 ghost use Rattle.rx_cache.specs.CachedSolver.{IsCachedSolver};
 ghost use Rattle.rx_find_cover.specs.Coverable.{is_coverable};
