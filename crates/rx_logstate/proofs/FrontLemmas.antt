@@ -3,7 +3,7 @@ use Rattle.std.specs.Prelude.{◌≡◌, ℕ, List, [], ◌∷◌, Option, Ok, E
 use Rattle.std.proofs.Common.{inl, inr, refl, subst}
 use Rattle.rx_io.specs.Outside.{Names}
 use Rattle.rx_inference.specs.declared.step.Step.{Step}
-use Rattle.rx_log.specs.Acceptance.{after_steps, start}
+use Rattle.rx_log.specs.Acceptance.{after_steps, start, used}
 use Rattle.rx_logstate.specs.AtSteps.{FindsFronts, FindsStep, HasNoPlace, IsNoLog}
 use Rattle.rx_logstate.specs.declared.at_step.AtStep.{AtStep}
 use Rattle.rx_logstate.specs.declared.look_end.LookEnd.{LookEnd}
@@ -30,10 +30,12 @@ module _ (held : Option Names) (fault : Type 0) (name : List ℕ) (limit : ℕ) 
 
     no_log : (bytes : List ℕ) → HasNoPlace parts goal 0 bytes → IsNoLog bytes
     no_log bytes (inl none) = none
-    no_log bytes (inr at) =
-        let is : after_steps parts 0 (start goal) [] ≡ Err at.1.1.fault =
-        subst (λ (l : List Step). after_steps parts 0 (start goal) l ≡ Err at.1.1.fault)
-        (none_before at.0.steps) at.1.1.is in
+    no_log bytes (inr (log, (is, inl unlawful))) = absurd (unlawful.0 (none_before log.steps))
+    no_log bytes (inr (log, (is, inr refused))) =
+        let no : after_steps (used parts log.domains) 0 (start goal) [] ≡ Err refused.fault =
+        subst (λ (l : List Step).
+        after_steps (used parts log.domains) 0 (start goal) l ≡ Err refused.fault)
+        (none_before log.steps) refused.is in
         absurd (cc)
 
     pub fronts_missed : (end : LookEnd) →

@@ -5,8 +5,12 @@ use Rattle.std.proofs.KnownBytes.{Consumes-trans}
 use Rattle.std.specs.Io.KnownBytes.{Consumes}
 use Rattle.std.specs.Prelude.{◌^◌, IsErrOf}
 use Rattle.rx_io.specs.Outside.{HoldsBytes, IsOpenedAt, Names}
-use Rattle.rx_log.specs.Reading.{pushed}
+use Rattle.rx_log.specs.Places.{after}
+use Rattle.rx_log.specs.Reading.{IsAt, pushed}
 use Rattle.rx_log.specs.declared.line.Line.{Line}
+use Rattle.rx_log.specs.declared.line.Line.TheVariants as kind
+use Rattle.rx_log.specs.declared.line_state.LineState.{LineState}
+use Rattle.rx_log.specs.declared.line_state.LineState.TheVariants.{AtHeader, InDomains, InKeeps, InCovers, InSteps, InRanks, InPairs, Finished}
 use Rattle.rx_log.specs.declared.log.Log.{Log}
 use Rattle.rx_logtext.specs.Logs.{IsFirstBad, ended, up_to_feed}
 use Rattle.rx_logtext.specs.Readers as text
@@ -15,10 +19,11 @@ use Rattle.rx_logtext.specs.declared.log_end.LogEnd.TheVariants as end
 use Rattle.rx_logtext.specs.declared.reader.LogReader.{LogReader}
 use Rattle.rx_logtext.proofs.Cuts.{up_to_feed-drop, up_to_feed-some}
 use Rattle.rx_logtext.proofs.Texts.{bad_goes_on, front_taken, stands_within}
+use Rattle.rx_row.specs.declared.row.Row.{Row}
 use Rattle.rx_term.specs.declared.rule.Equation.{Equation}
 use Rattle.rx_term.specs.declared.rule_set.RuleParts.{RuleParts}
 use Rattle.rx_logstate.specs.AtSteps.{FindsStep}
-use Rattle.rx_logstate.specs.Following.{EndsBad, Follows, GoesOn, IsBadFrom, IsCount, Says, StandsFor, lines_in}
+use Rattle.rx_logstate.specs.Following.{EndsBad, Follows, GoesOn, IsBadFrom, IsCount, IsInOrder, Says, StandsFor, lines_in}
 use Rattle.rx_logstate.specs.declared.at_step.AtStep.{AtStep}
 use Rattle.rx_logstate.specs.declared.following.Follower.{Follower}
 use Rattle.rx_logstate.specs.declared.look_end.LookEnd.{LookEnd}
@@ -47,20 +52,62 @@ good_at_first {reader} {log} h = by reader.is_bad refl
 
 -- ---- a line
 
+-- a log has no steps where its header comes
+no_steps_yet : (place : LineState) (log : Log) (symbol : ℕ) (next : LineState) → IsAt place log →
+    after place (kind.Header2, symbol) ≡ Some next → log.steps ≡ []
+no_steps_yet AtHeader log symbol next at e = ap (λ (l : Log). l.steps) at
+no_steps_yet (InDomains n) log symbol next at e = absurd (cc)
+no_steps_yet InKeeps log symbol next at e = absurd (cc)
+no_steps_yet (InCovers n) log symbol next at e = absurd (cc)
+no_steps_yet InSteps log symbol next at e = absurd (cc)
+no_steps_yet (InRanks columns n) log symbol next at e = absurd (cc)
+no_steps_yet InPairs log symbol next at e = absurd (cc)
+no_steps_yet Finished log symbol next at e = absurd (cc)
+
+-- nor where a domain comes
+no_steps_there : (place : LineState) (log : Log) (rows : List Row) (symbol : ℕ)
+    (next : LineState) → IsAt place log → after place (kind.Domain rows, symbol) ≡ Some next →
+    log.steps ≡ []
+no_steps_there AtHeader log rows symbol next at e = absurd (cc)
+no_steps_there (InDomains n) log rows symbol next at e = at.1.1.0
+no_steps_there InKeeps log rows symbol next at e = absurd (cc)
+no_steps_there (InCovers n) log rows symbol next at e = absurd (cc)
+no_steps_there InSteps log rows symbol next at e = absurd (cc)
+no_steps_there (InRanks columns n) log rows symbol next at e = absurd (cc)
+no_steps_there InPairs log rows symbol next at e = absurd (cc)
+no_steps_there Finished log rows symbol next at e = absurd (cc)
+
+in_order : (place : LineState) (log : Log) (line : Line) (symbol : ℕ) (next : LineState) →
+    IsAt place log → after place (line, symbol) ≡ Some next → IsInOrder line log
+in_order place log kind.Header2 symbol next at e = no_steps_yet place log symbol next at e
+in_order place log (kind.Domain rows) symbol next at e =
+    no_steps_there place log rows symbol next at e
+in_order place log kind.Header symbol next at e = tt
+in_order place log (kind.Keep certs) symbol next at e = tt
+in_order place log (kind.Cover trees) symbol next at e = tt
+in_order place log (kind.Step step) symbol next at e = tt
+in_order place log (kind.Ranks columns) symbol next at e = tt
+in_order place log (kind.Rank rank) symbol next at e = tt
+in_order place log (kind.Pair pair) symbol next at e = tt
+in_order place log kind.End symbol next at e = tt
+
 module _ {old : Look} {parts : RuleParts} {goal : Equation} {number : ℕ} {bytes : List ℕ}
     (piece : List ℕ) (reader : LogReader) (h : StandsFor old parts goal number bytes)
   where
     pub line_read : (count : ℕ) (line : Line) (follower : Follower) →
         Takes old.reader h.log bytes piece reader (Ok (count, Some line)) →
+        text.MayLead (text.place_of old.reader) line (text.place_of reader) →
         ((target : Equation) (at : ℕ) (log : Log) → Follows old.follower parts target at log →
-        Follows follower parts target at (pushed line log)) →
+        IsInOrder line log → Follows follower parts target at (pushed line log)) →
         StandsFor (record { reader = reader; follower = follower }) parts goal number
         (bytes ++ up_to_feed piece)
-    line_read count line follower t follows = record {
+    line_read count line follower t comes follows = record {
       log = pushed line h.log;
       reader = t.1.1;
       good = t.1.0;
-      follows = follows goal number h.log h.follows;
+      follows =
+          follows goal number h.log h.follows
+          (in_order old.reader.place h.log line comes.0 reader.place h.reader.taken.at comes.1);
     }
 
     pub part_read : (count : ℕ) → Takes old.reader h.log bytes piece reader (Ok (count, None)) →

@@ -1,21 +1,28 @@
 -- What is kept of a log while it is read up to a step. Nothing that a caller reads depends on this.
-use Rattle.std.specs.Prelude.{◌≡◌, ◌≤◌, ℕ, Bool, true, false, List, Option, Some, None, Result, Ok, Err, ◌+◌, ◌++◌, length, option_map}
+use Rattle.std.specs.Prelude.{◌≡◌, ◌⊎◌, ◌≤◌, ℕ, Bool, true, false, List, [], Option, Some, None, Result, Ok, Err, ◌+◌, ◌++◌, length, option_map, unwrap_or}
+use Rattle.rx_domain.specs.Setting.{bad_domain, with_domains}
+use Rattle.rx_domain.specs.declared.domains.Domains.{Domains}
 use Rattle.rx_inference.specs.declared.step.Step.{Step}
 use Rattle.rx_inference.specs.States.{State}
-use Rattle.rx_log.specs.Acceptance.{LogFault, after_steps, start}
+use Rattle.rx_log.specs.Acceptance.{LogFault, after_steps, start, used}
+use Rattle.rx_log.specs.declared.line.Line.{Line}
+use Rattle.rx_log.specs.declared.line.Line.TheVariants as line
 use Rattle.rx_log.specs.declared.log.Log.{Log}
 use Rattle.rx_logtext.specs.Logs.{IsFirstBad, up_to_feed}
 use Rattle.rx_logtext.specs.Readers as text
 use Rattle.rx_logtext.specs.Readers.{has_bad}
+use Rattle.rx_row.specs.declared.row.Row.{Row}
 use Rattle.rx_steps.specs.declared.step_end.StepEnd.{StepEnd}
 use Rattle.rx_steps.specs.declared.step_end.StepEnd.TheVariants as step_end
 use Rattle.rx_term.specs.declared.rule.Equation.{Equation}
 use Rattle.rx_term.specs.declared.rule_set.RuleParts.{RuleParts}
-use Rattle.rx_logstate.specs.AtSteps.{IsAtStep, IsRefusedBefore, step_at, steps_before, HasNoPlace, OnLog}
+use Rattle.rx_logstate.specs.AtSteps.{HasBadDomain, IsAtStep, IsRefusedBefore, IsUnlawfulBefore, rows_of, step_at, steps_before, HasNoPlace, OnLog}
 use Rattle.rx_logstate.specs.Fronts.{after_domains}
 use Rattle.rx_logstate.specs.declared.at_step.AtStep.{AtStep}
 use Rattle.rx_logstate.specs.declared.following.Follower.{Follower}
+use Rattle.rx_logstate.specs.declared.following.Proof.{Proof}
 use Rattle.rx_logstate.specs.declared.following.Reached.{Reached}
+use Rattle.rx_logstate.specs.declared.inside.Inside.{Inside}
 use Rattle.rx_logstate.specs.declared.look_end.LookEnd.{LookEnd}
 use Rattle.rx_logstate.specs.declared.look_end.LookEnd.TheVariants as look_end
 use Rattle.rx_logstate.specs.declared.looking.Look.{Look}
@@ -42,6 +49,59 @@ SaysFault (Ok done) answer = answer ≡ false
 SaysFault (Err step_end.NoMemory) answer = ⊥
 SaysFault (Err fault) answer = answer ≡ true
 
+-- ---- domains
+
+-- the rules with these domains, or none where they aren't lawful
+abbrev pub MakesSet : RuleParts → List (List Row) → Option RuleParts → Type 0
+MakesSet parts lists None = (symbol : ℕ) × (bad_domain parts.symbols lists ≡ Some symbol)
+MakesSet parts lists (Some set) = set ≡ with_domains parts lists
+
+-- the rules that are kept, if they are, are those with the domains of the log
+abbrev pub IsSet : Option RuleParts → RuleParts → Option Domains → Type 0
+IsSet None parts domains = Unit {0}
+IsSet (Some set) parts domains = set ≡ used parts domains
+
+-- what is kept is what the log so far says of domains
+pub record Holds (inside : Inside) (parts : RuleParts) (domains : Option Domains) : Type 0 where
+  pub rows : inside.rows ≡ rows_of domains
+  pub set : IsSet inside.set parts domains
+
+-- the rules with the domains are at hand, or the domains aren't lawful
+abbrev pub AreMade : Bool → Inside → RuleParts → Option Domains → Type 0
+AreMade true inside parts domains =
+    Holds inside parts domains × (unwrap_or inside.set parts ≡ used parts domains)
+AreMade false inside parts domains = Holds inside parts domains × HasBadDomain parts domains
+
+-- ---- the proof
+
+-- so far these steps, over the rules with the domains of the log, have brought the proof; or the
+-- domains aren't lawful
+abbrev pub Comes : Bool → Reached → RuleParts → Equation → Option Domains → List Step → Type 0
+Comes false reached parts goal domains steps = Arrives reached (used parts domains) goal steps
+Comes true reached parts goal domains steps =
+    (steps ≡ [] → ⊥) × HasBadDomain parts domains
+
+pub record Goes (proof : Proof) (parts : RuleParts) (goal : Equation) (domains : Option Domains)
+    (steps : List Step)
+    : Type 0 where
+  pub holds : Holds proof.inside parts domains
+  pub comes : Comes proof.is_unlawful proof.reached parts goal domains steps
+
+-- no step was taken yet
+pub record IsFresh (proof : Proof) (goal : Equation) : Type 0 where
+  pub set : proof.inside.set ≡ None
+  pub lawful : proof.is_unlawful ≡ false
+  pub good : proof.reached.is_refused ≡ false
+  pub state : proof.reached.state ≡ start goal
+
+-- no step comes before a domain
+abbrev pub IsInOrder : Line → Log → Type 0
+IsInOrder line.Header2 log = log.steps ≡ []
+IsInOrder (line.Domain rows) log = log.steps ≡ []
+IsInOrder other log = Unit {0}
+
+-- ---- lines
+
 -- what is kept is what the log so far gives, for the step with this number
 pub record Follows (follower : Follower) (parts : RuleParts) (goal : Equation) (number : ℕ)
     (log : Log)
@@ -50,7 +110,8 @@ pub record Follows (follower : Follower) (parts : RuleParts) (goal : Equation) (
   pub fronts : follower.fronts ≡ option_map after_domains log.domains
   pub covers : follower.covers ≡ length log.covers
   pub steps : follower.steps ≡ length log.steps
-  pub arrives : Arrives follower.reached parts goal (steps_before number log)
+  pub fresh : log.steps ≡ [] → IsFresh follower.proof goal
+  pub goes : Goes follower.proof parts goal log.domains (steps_before number log)
   pub step : follower.step ≡ step_at number log
   pub table : follower.table ≡ log.table
 
@@ -59,10 +120,12 @@ abbrev pub FollowsNext : Follower → RuleParts → Equation → ℕ → Log →
 FollowsNext follower parts goal number log =
     Follows (record follower { steps = follower.steps + 1 }) parts goal number log
 
--- what is known at the end of the log, or that a step before isn't accepted
+-- what is known at the end of the log, or that a step before isn't accepted, or comes after
+-- domains that aren't lawful
 abbrev pub Concludes : RuleParts → Equation → Log → ℕ → Option AtStep → Type 0
 Concludes parts goal log number (Some found) = IsAtStep parts goal log number found
-Concludes parts goal log number None = IsRefusedBefore parts goal log number
+Concludes parts goal log number None =
+    IsUnlawfulBefore parts log number ⊎ IsRefusedBefore parts goal log number
 
 -- ---- lines
 

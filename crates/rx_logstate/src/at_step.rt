@@ -4,6 +4,7 @@ use crate::front_lines::Fronts;
 use rx_inference::Step;
 use rx_pairs::RankTable;
 use rx_plain::Items;
+use rx_row::Constraint;
 use rx_steps::State;
 
 /// What is known at the step with a number, or after the last one where there are no more.
@@ -19,4 +20,6 @@ pub struct AtStep {
     pub step: Items<Step>,
     /// The ranks of the log.
     pub table: RankTable,
+    /// The domains of the log, one for each symbol, where it has any.
+    pub domains: Option<Items<Constraint>>,
 }

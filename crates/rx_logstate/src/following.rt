@@ -1,20 +1,24 @@
 //! The state of a proof while the lines of its log come.
-ghost use Rattle.std.specs.Prelude.{◌≡◌, ◌+◌, ◌∷◌, ◌++◌, [], ℕ, List, false, min, option_map, unwrap_or, IfOk, OnOk};
+ghost use Rattle.std.specs.Prelude.{◌≡◌, ◌+◌, ◌∷◌, ◌++◌, [], ℕ, List, Option, Some, false, min, option_map, unwrap_or, IfOk, OnOk};
+ghost use Rattle.rx_domain.specs.declared.domains.Domains.{Domains};
 ghost use Rattle.rx_inference.specs.declared.step.Step.{Step};
 ghost use Rattle.rx_log.specs.Reading.{blank, pushed};
 ghost use Rattle.rx_log.specs.declared.log.Log.{Log};
 ghost use Rattle.rx_term.specs.declared.rule.Equation.{Equation};
 ghost use Rattle.rx_term.specs.declared.rule_set.RuleParts.{RuleParts};
-ghost use Rattle.rx_logstate.specs.Following.{Arrives, Concludes, Follows, FollowsNext, SaysFault};
+ghost use Rattle.rx_row.specs.declared.row.Row.{Row};
+ghost use Rattle.rx_logstate.specs.Following.{Arrives, Concludes, Follows, FollowsNext, Goes, IsInOrder, SaysFault};
 ghost use Rattle.rx_logstate.specs.Fronts.{after_domain, after_header, after_keep};
 
 use crate::at_step::AtStep;
 use crate::front_lines::{Fronts, count_after};
+use crate::inside::Inside;
 use rx_inference::Step;
 use rx_log::Line;
 use rx_pairs::RankTable;
 use rx_plain::{Items, NoMemory};
 use rx_poly::Poly;
+use rx_row::Constraint;
 use rx_steps::{State, StepEnd, apply_owned};
 use rx_term::{Equation, RuleSet};
 use std::alloc::Global;
@@ -78,6 +82,47 @@ impl Reached {
     }
 }
 
+/// How far the steps of a log have brought a proof, over the rules with its domains.
+#[derive(Drop)]
+struct Proof {
+    // The domains of the log, and the rules with them.
+    inside: Inside,
+    // Whether a step came and the domains aren't lawful.
+    is_unlawful: bool,
+    // How far the steps have brought the proof, unless that is so.
+    reached: Reached,
+}
+
+impl Proof {
+    /// Takes a step, where the domains are lawful as far as that is known.
+    fn apply(&mut self, alloc: Global, rules: &RuleSet, step: Step) -> Result<(), NoMemory>
+        requires { self.old.is_unlawful ≡ false }
+        ensures { OnOk result ((goal : Equation) (domains : Option Domains) (steps : List Step) →
+            Goes self.old rules.now goal domains steps →
+            Goes self.new rules.now goal domains (steps ++ step ∷ [])) }
+    {
+        if self.inside.make(alloc, rules)? {
+            return self.reached.take(alloc, self.inside.rules(rules), step);
+        }
+        drop(step);
+        self.is_unlawful = true;
+        Ok(())
+    }
+
+    /// Takes a step.
+    fn take(&mut self, alloc: Global, rules: &RuleSet, step: Step) -> Result<(), NoMemory>
+        ensures { OnOk result ((goal : Equation) (domains : Option Domains) (steps : List Step) →
+            Goes self.old rules.now goal domains steps →
+            Goes self.new rules.now goal domains (steps ++ step ∷ [])) }
+    {
+        if self.is_unlawful {
+            drop(step);
+            return Ok(());
+        }
+        self.apply(alloc, rules, step)
+    }
+}
+
 /// What is kept of a log whose lines come one by one.
 #[derive(Drop)]
 pub(crate) struct Follower {
@@ -90,7 +135,7 @@ pub(crate) struct Follower {
     // How many steps came.
     steps: usize,
     // How far those before the number have brought the proof.
-    reached: Reached,
+    proof: Proof,
     // The step that is looked for, once it came.
     step: Items<Step>,
     // The ranks so far.
@@ -118,6 +163,14 @@ impl Follower {
             state,
             is_refused: false,
         };
+        let proof = Proof {
+            inside: Inside {
+                rows: None,
+                set: None,
+            },
+            is_unlawful: false,
+            reached,
+        };
         let table = RankTable {
             columns: 1,
             ranks: Items::new(alloc),
@@ -127,7 +180,7 @@ impl Follower {
             fronts: None,
             covers: 0,
             steps: 0,
-            reached,
+            proof,
             step: Items::new(alloc),
             table,
         })
@@ -142,7 +195,7 @@ impl Follower {
         ensures counted { OnOk result (self.new.steps ≡ self.old.steps) }
     {
         if self.steps < self.number {
-            self.reached.take(alloc, rules, step)?;
+            self.proof.take(alloc, rules, step)?;
             return Ok(());
         }
         if self.steps == self.number {
@@ -164,8 +217,35 @@ impl Follower {
         Ok(())
     }
 
+    /// Begins with no domain.
+    fn take_header(&mut self, alloc: Global)
+        ensures { self.new ≡ record self.old {
+          proof = record self.old.proof { inside = record self.old.proof.inside { rows = Some [] } };
+          fronts = Some after_header;
+        } }
+    {
+        self.proof.inside.begin(alloc);
+        self.fronts = Some(AFTER_HEADER);
+    }
+
+    /// Keeps a domain, where the log has any.
+    fn take_domain(&mut self, rows: Constraint) -> Result<(), NoMemory>
+        ensures { OnOk result (self.new ≡ record self.old {
+          proof = record self.old.proof {
+            inside = record self.old.proof.inside {
+              rows = option_map (λ (lists : List (List Row)). lists ++ rows ∷ [])
+                  self.old.proof.inside.rows;
+            };
+          };
+          fronts = option_map after_domain self.old.fronts;
+        }) }
+    {
+        self.proof.inside.push(rows)?;
+        self.count_domain()
+    }
+
     /// Counts a domain, where the log has any.
-    fn take_domain(&mut self) -> Result<(), NoMemory>
+    fn count_domain(&mut self) -> Result<(), NoMemory>
         ensures { OnOk result (self.new ≡ record self.old {
           fronts = option_map after_domain self.old.fronts;
         }) }
@@ -220,16 +300,16 @@ impl Follower {
         line: Line,
     ) -> Result<(), NoMemory>
         ensures { OnOk result ((goal : Equation) (number : ℕ) (log : Log) →
-            Follows self.old rules.now goal number log →
+            Follows self.old rules.now goal number log → IsInOrder line log →
             Follows self.new rules.now goal number (pushed line log)) }
     {
         match line {
             Line::Header => Ok(()),
             Line::Header2 => {
-                self.fronts = Some(AFTER_HEADER);
+                self.take_header(alloc);
                 Ok(())
             }
-            Line::Domain(_rows) => self.take_domain(),
+            Line::Domain(rows) => self.take_domain(rows),
             Line::Keep(_certs) => self.take_keep(),
             Line::Cover(_trees) => self.take_cover(),
             Line::Step(step) => self.take_step(alloc, rules, step),
@@ -259,22 +339,54 @@ impl Follower {
         sum(before, self.number.min(self.steps))
     }
 
-    /// What is known where the whole log has come; none where a step before isn't accepted.
+    /// What is known, with these numbers of lines.
+    fn known(self, fronts: Fronts, line: usize) -> AtStep
+        ensures { result ≡ record {
+          fronts = fronts;
+          line = line;
+          state = self.proof.reached.state;
+          step = self.step;
+          table = self.table;
+          domains = self.proof.inside.rows;
+        } }
+    {
+        let Follower {
+            proof,
+            step,
+            table,
+            ..
+        } = self;
+        let Proof {
+            inside,
+            reached,
+            ..
+        } = proof;
+        let Inside { rows, .. } = inside;
+        let Reached { state, .. } = reached;
+        AtStep {
+            fronts,
+            line,
+            state,
+            step,
+            table,
+            domains: rows,
+        }
+    }
+
+    /// What is known where the whole log has come; none where a step before isn't accepted, or
+    /// comes after domains that aren't lawful.
     pub(crate) fn finish(self) -> Result<Option<AtStep>, NoMemory>
         ensures { IfOk result (λ found. (parts : RuleParts) (goal : Equation) (number : ℕ) (log : Log) →
             Follows self parts goal number log → Concludes parts goal log number found) }
     {
         let fronts = self.known_fronts();
         let line = self.line_number(fronts)?;
-        if self.reached.is_refused {
+        if self.proof.is_unlawful {
             return Ok(None);
         }
-        Ok(Some(AtStep {
-            fronts,
-            line,
-            state: self.reached.state,
-            step: self.step,
-            table: self.table,
-        }))
+        if self.proof.reached.is_refused {
+            return Ok(None);
+        }
+        Ok(Some(self.known(fronts, line)))
     }
 }

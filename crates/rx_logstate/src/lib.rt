@@ -5,6 +5,7 @@
 mod at_step;
 mod following;
 mod front_lines;
+mod inside;
 mod look_end;
 mod looking;
 mod reading;

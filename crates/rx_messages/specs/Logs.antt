@@ -1,9 +1,10 @@
 -- What a message shows of a log: a line of it, and at a step the first goal of the state before.
-use Rattle.std.specs.Prelude.{◌≡◌, ◌+◌, ◌^◌, ℕ, Bool, true, false, List, [], ◌∷◌, ◌++◌, Option, Some, None, codes, decimal, length, option_map}
+use Rattle.std.specs.Prelude.{◌≡◌, ◌+◌, ◌^◌, ℕ, Bool, true, false, List, [], ◌∷◌, ◌++◌, Option, Some, None, codes, decimal, is_none, length, option_map, if◌then◌else◌}
 use Rattle.rx_check.specs.declared.check_end.CheckEnd.{CheckEnd}
 use Rattle.rx_check.specs.declared.check_end.CheckEnd.TheVariants as End
 use Rattle.rx_check.specs.declared.check_end.LimitAt.{LimitAt}
 use Rattle.rx_check.specs.declared.check_end.LimitAt.TheVariants as At
+use Rattle.rx_domain.specs.Setting.{bad_domain, with_domains}
 use Rattle.rx_goal_words.specs.ConditionTexts.{condition_text}
 use Rattle.rx_goal_words.specs.GoalTexts.{state_text}
 use Rattle.rx_goal_words.specs.RuleTexts.{is_of_symbol, rules_text}
@@ -17,6 +18,7 @@ use Rattle.rx_places.specs.Excerpts.{numbered}
 use Rattle.rx_places.specs.LineFronts.{IsLineHeld}
 use Rattle.rx_report.specs.declared.verdicts.Verdict.{Verdict}
 use Rattle.rx_report.specs.declared.verdicts.Verdict.TheVariants as Said
+use Rattle.rx_row.specs.declared.row.Row.{Row}
 use Rattle.rx_steps.specs.declared.step_end.StepEnd.{StepEnd}
 use Rattle.rx_steps.specs.declared.step_end.StepEnd.TheVariants as Unmet
 use Rattle.rx_term.specs.declared.rule_set.RuleParts.{RuleParts}
@@ -200,14 +202,31 @@ abbrev pub line_text : Option ℕ → List ℕ → List ℕ
 line_text None line = []
 line_text (Some number) line = numbered number line
 
+-- the rules with the domains of a log, if it has any
+abbrev pub rules_inside : RuleParts → Option (List (List Row)) → RuleParts
+rules_inside parts None = parts
+rules_inside parts (Some rows) = with_domains parts rows
+
+-- the domains, if there are any, are lawful
+abbrev pub are_lawful : RuleParts → Option (List (List Row)) → Bool
+are_lawful parts None = true
+are_lawful parts (Some rows) = is_none (bad_domain parts.symbols rows)
+
 -- the condition with this number of the step, if there is a step
 abbrev pub condition_of : RuleParts → AtStep → ℕ → List Step → List ℕ
 condition_of parts at number [] = []
 condition_of parts at number (step ∷ more) = condition_text parts at.state step number
 
+-- the same over the rules with the domains of the log, if these are lawful
+abbrev pub condition_inside : RuleParts → AtStep → ℕ → List ℕ
+condition_inside parts at number =
+    if are_lawful parts at.domains
+    then condition_of (rules_inside parts at.domains) at number at.step
+    else []
+
 -- the condition that isn't shown
 abbrev pub unmet_text : RuleParts → AtStep → StepEnd → List ℕ
-unmet_text parts at (Unmet.NotShown number) = condition_of parts at number at.step
+unmet_text parts at (Unmet.NotShown number) = condition_inside parts at number
 unmet_text parts at end = []
 
 -- of a step that fails: the condition, and the state before it

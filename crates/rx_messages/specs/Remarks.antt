@@ -101,7 +101,7 @@ tries_after_check End.NoMemory = None
 abbrev pub tries_of : Verdict → Option (List ℕ)
 tries_of Said.NoRanks =
     Some (codes
-    "a base case that ends everywhere, n <= 0 in place of n == 0; a loop with its test in front")
+    "a base case that ends everywhere (n <= 0, not n == 0), or --pre with what it needs; a loop with its test in front")
 tries_of (Said.Depth depth) =
     Some (codes
     "a greater --depth; --pre (of a rule text: rows), if it is to hold for some arguments only; smaller parts")

@@ -9,11 +9,13 @@ ghost use Rattle.rx_messages.specs.Steps.{FindsFacts, FindsFronts, FindsLine, Fi
 
 use crate::silences::{Silence, silence_of, silence_of_look};
 use rx_check::{CheckEnd, LimitAt};
+use rx_domain::{DomainEnd, set_domains};
 use rx_goal_words::{push_condition, push_rules_of, push_state};
 use rx_io::Files;
 use rx_logstate::{AtStep, Fronts, fronts_in_file, step_in_file};
 use rx_places::{NoMemory, line_in_file, push_number, push_numbered_line, push_word};
 use rx_report::Verdict;
+use rx_row::Constraint;
 use rx_steps::StepEnd;
 use rx_term::{Equation, RuleSet};
 use std::alloc::Global;
@@ -430,6 +432,43 @@ fn push_condition_of(
     }
 }
 
+/// The same over the rules with these domains, where these are lawful.
+fn push_condition_over(
+    alloc: Global,
+    out: &mut Vec<u8>,
+    rules: &RuleSet,
+    rows: &[Constraint],
+    at: &AtStep,
+    number: u32,
+) -> Result<(), NoMemory>
+    requires { at.now.domains ≡ Some rows.now }
+    ensures { OnOk result (out.new.items
+        ≡ out.old.items ++ spec.condition_inside rules.now at.now number) }
+{
+    match set_domains(alloc, rules, rows) {
+        Ok(set) => push_condition_of(alloc, out, &set, at, number),
+        Err(DomainEnd::BadDomain(_)) => Ok(()),
+        Err(DomainEnd::NotKept(_) | DomainEnd::Large(_) | DomainEnd::NoMemory) => Err(NoMemory),
+    }
+}
+
+/// The same over the rules with the domains of the log.
+fn push_condition_inside(
+    alloc: Global,
+    out: &mut Vec<u8>,
+    rules: &RuleSet,
+    at: &AtStep,
+    number: u32,
+) -> Result<(), NoMemory>
+    ensures { OnOk result (out.new.items
+        ≡ out.old.items ++ spec.condition_inside rules.now at.now number) }
+{
+    match &at.domains {
+        Some(rows) => push_condition_over(alloc, out, rules, rows.as_slice(), at, number),
+        None => push_condition_of(alloc, out, rules, at, number),
+    }
+}
+
 fn push_unmet(
     alloc: Global,
     out: &mut Vec<u8>,
@@ -440,7 +479,7 @@ fn push_unmet(
     ensures { OnOk result (out.new.items ≡ out.old.items ++ spec.unmet_text rules.now at.now end) }
 {
     match end {
-        StepEnd::NotShown { condition } => push_condition_of(alloc, out, rules, at, condition),
+        StepEnd::NotShown { condition } => push_condition_inside(alloc, out, rules, at, condition),
         StepEnd::NoGoal
         | StepEnd::WrongShape
         | StepEnd::NoSuchRule

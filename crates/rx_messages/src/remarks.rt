@@ -131,7 +131,7 @@ pub(crate) fn tries_of(verdict: &Verdict) -> Option<&'static [u8]>
     match verdict {
         Verdict::NoRanks => {
             Some(
-                b"a base case that ends everywhere, n <= 0 in place of n == 0; a loop with its test in front",
+                b"a base case that ends everywhere (n <= 0, not n == 0), or --pre with what it needs; a loop with its test in front",
             )
         }
         Verdict::Depth(_) => {

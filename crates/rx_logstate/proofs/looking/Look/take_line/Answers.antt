@@ -1,7 +1,7 @@
 -- A line, a part of a line, or a bad line was read.
 use Rattle.std.proofs.Common.{Option, Ok, Err, subst}
 use Rattle.rx_log.specs.declared.line.Line.{Line}
-use Rattle.rx_logtext.specs.Readers.{Takes}
+use Rattle.rx_logtext.specs.Readers.{IsNext, Takes, place_of}
 use Rattle.rx_logtext.specs.declared.log_end.LogEnd.{LogEnd}
 use Rattle.rx_logstate.proofs.LookLemmas.{bad_read, line_read, part_read}
 use Rattle.rx_logstate.proofs.looking.Look.take_line.Goals as goal
@@ -14,6 +14,8 @@ returns-in_ok-line-in-Ok-default-Some-clause-takes c = λ target number bytes h.
     (subst (λ (o : Option Line). Takes c.args.self.now.reader h.log bytes c.args.piece.now
     c.take.new.self (Ok (c.in-Ok-default-Some.count, o))) c.in-Ok-default-Some.field-0-1-is
     (c.in-Ok-default-Some.ensures.takes h.log bytes h.reader))
+    (subst (λ (o : Option Line). IsNext (place_of c.args.self.now.reader) o
+    (place_of c.take.new.self)) c.in-Ok-default-Some.field-0-1-is c.in-Ok-default-Some.ensures.next)
     c.in_ok-line-in-Ok-default-Some.ensures
 
 pub returns-in-Ok-default-None-clause-takes : goal.returns-in-Ok-default-None-clause-takes
