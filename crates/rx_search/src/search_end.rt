@@ -8,10 +8,10 @@ use thiserror::Error;
 /// Why a search made no log, or why that isn't known.
 #[derive(Debug, Drop, Error)]
 pub enum SearchEnd {
-    /// The rules have no ranks, so that no log over them is accepted.
-    #[error("the rules have no ranks")]
+    /// No ranks are found, neither of the rules alone nor inside the domains that are found.
+    #[error("no ranks are found")]
     NoRanks,
-    /// No ranks of the rules are found, and a polynomial passes the limits on the way.
+    /// No ranks are found so, and a polynomial passes the limits on the way to them.
     #[error("a polynomial of the ranks is too large")]
     LargeRanks {
         /// The rows of the goal.
