@@ -10,7 +10,8 @@ use Rattle.rx_logtext.specs.Logs.{IsLog}
 use Rattle.rx_row.specs.declared.row.Row.{Row}
 use Rattle.rx_moves.specs.Moves.{Move, move_of}
 use Rattle.rx_search.specs.Beginning.{Over, Unranked, beginning, set_begun, set_of}
-use Rattle.rx_search.specs.Begun.{IsInside}
+use Rattle.rx_domain.specs.declared.domains.Domains.{Domains}
+use Rattle.rx_search.specs.Begun.{IsInside, rows_of}
 use Rattle.rx_search.specs.Ends.{IsEnd}
 use Rattle.rx_search.specs.Search.{Searched, Closed, Large, NoPlan, searched_from, unranked, visited}
 use Rattle.rx_search.specs.declared.beginning.Inside.{Inside}
@@ -143,6 +144,7 @@ module _ (problem : Problem) (effort : Effort) where
   plain_found (Ok log) from is = record {
     closes = sought_over None from ∙ is.closes;
     accepted = accepted_bare problem.rules problem.goal log is.bare is.accepted;
+    domains = from ∙ ap (λ (d : Option Domains). Over (rows_of d)) (sym is.bare);
     shallow = is.shallow;
   }
   plain_found (Err end) from is =
@@ -163,6 +165,7 @@ module _ (problem : Problem) (effort : Effort) where
       closes = inside_sought ∙ over.closes
           ∙ ap (λ (log : Log). Closed (moves_of log)) (sym same);
       accepted = accepted;
+      domains = from ∙ ap (λ (l : Log). Over (rows_of l.domains)) (sym same);
       shallow = shallow;
     }
 
@@ -214,8 +217,17 @@ module _ (problem : Problem) (effort : Effort) where
   proof_said : (s : Searched) (log : Log) (text : List ℕ) → IsSolution problem s log →
       IsLog text log → OnSearched problem effort s (Proof text)
   proof_said s log text solves is =
-      subst (λ (s : Searched). OnSearched problem effort s (Proof text)) (sym solves.closes)
-      (text, record { log = log; accepted = solves.accepted; steps = refl; is = is }, refl)
+      subst (λ (s : Searched). OnSearched problem effort s (Proof text)) (sym solves.closes) (
+        text,
+        record {
+          log = log;
+          accepted = solves.accepted;
+          domains = solves.domains;
+          steps = refl;
+          is = is;
+        },
+        refl,
+      )
 
   -- a log that is found is shallow
   pub found_shallow : (s : Searched) (found : Result Log SearchEnd) →

@@ -18,6 +18,8 @@ use Rattle.rx_log.specs.Acceptance.{Accepted, IsAccepted, verdict_over}
 use Rattle.rx_log.specs.Depth.{is_shallow_log}
 use Rattle.rx_log.specs.declared.log.Log.{Log}
 use Rattle.rx_plain.specs.declared.no_memory.NoMemory.{NoMemory}
+use Rattle.rx_search.specs.Beginning.{Over, beginning}
+use Rattle.rx_search.specs.Begun.{rows_of}
 use Rattle.rx_search.specs.Ends.{IsEnd}
 use Rattle.rx_search.specs.Search.{Closed, Searched, visited}
 use Rattle.rx_term.specs.declared.rule.Equation.{Equation}
@@ -126,10 +128,12 @@ IsFoundOver parts goal effort (Ok log) = IsOver parts goal effort log
 IsFoundOver parts goal effort (Err end) =
     IsEnd effort.depth effort.budget (both_over parts goal effort) end
 
--- a log of a problem's proof, by what the searches come to
+-- a log of a problem's proof, by what the searches come to; its domains are those with which they
+-- begin
 pub record IsSolution (problem : Problem) (searched : Searched) (log : Log) : Type 0 where
   pub closes : searched ≡ Closed (moves_of log)
   pub accepted : IsAccepted problem.rules problem.goal log
+  pub domains : beginning problem.rules problem.goal ≡ Over (rows_of log.domains)
   pub shallow : is_shallow_log log ≡ true
 
 -- what is found of a problem: such a log, or how the searches end

@@ -10,8 +10,8 @@ use Rattle.rx_rank.specs.Ranking.{ranked}
 use Rattle.rx_term.specs.declared.rule.Equation.{Equation}
 use Rattle.rx_term.specs.declared.rule_set.RuleParts.{RuleParts}
 
--- over the rules, inside these domains if there are some; or nowhere, as no set has ranks, and
--- whether something passed the limits on the way to them
+-- over the rules, inside these domains if there are some; or nowhere, as no set has ranks and a
+-- cover, and whether something passed the limits on the way to the ranks
 pub data Beginning : Type 0 where
   Over : Option (List (List Row)) → Beginning
   Unranked : Bool → Beginning

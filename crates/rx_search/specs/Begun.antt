@@ -59,7 +59,9 @@ BeginsWith inside noted (begun.Unranked now) =
 abbrev pub IsBegun : RuleParts → Equation → Beginning → Type 0
 IsBegun parts goal begun.Plain = (beginning parts goal ≡ Over None) × (ranked parts [] ≡ Yes)
 IsBegun parts goal (begun.Inside inside) =
-    (beginning parts goal ≡ Over (Some inside.domains.rows)) × IsInside parts goal inside × IsReady inside.rules
+    (beginning parts goal ≡ Over (Some inside.domains.rows))
+    × IsInside parts goal inside
+    × IsReady inside.rules
 IsBegun parts goal (begun.Unranked noted) = beginning parts goal ≡ Unranked noted
 
 -- ---- logs

@@ -58,9 +58,10 @@ module _ (parts : RuleParts) where
 
 -- ---- the search
 
--- what a search comes to: no set has ranks; the rows of the goal, where the limits are passed on the
--- way to those; the moves of a proof; the rows of the goal at which the limits were passed first,
--- and the choices on the path to it; more visits than the budget; no plan of the depth
+-- what a search comes to: no set that has ranks and a cover; the rows of the goal, where the limits
+-- are passed on the way to these; the moves of a proof; the rows of the goal at which the limits
+-- were passed first, and the choices on the path to it; more visits than the budget; no plan of the
+-- depth
 pub data Searched : Type 0 where
   NoRanks : Searched
   LargeRanks : List Row → Searched

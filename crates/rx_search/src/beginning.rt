@@ -40,7 +40,8 @@ pub enum Beginning {
     /// Inside the domains that are found: the rules alone have no ranks, and inside these domains
     /// they have, and are coverable.
     Inside(Inside),
-    /// Nowhere: there are no ranks, neither of the rules alone nor inside domains.
+    /// Nowhere: the rules alone have no ranks, and inside the domains that are found they have none
+    /// or no cover.
     Unranked {
         /// Whether something passed the limits on the way to ranks.
         noted: bool,

@@ -412,17 +412,17 @@ impl<S: FnMut(&Constraint) -> Result<Option<Cert>, FmEnd>> Search<S> {
         }
     }
 
-    /// Searches for a proof that both sides of the goal come to the same, over the rules where these
-    /// have ranks, and else inside the domains that are found for the goal, where there are ranks:
-    /// nodes are visited by
-    /// lists, the first with no choices on a path, the last with at most `depth` of them, and at
-    /// most `budget` nodes are visited. The depth is at most 12, and the rules have no domains.
+    /// Searches for a proof that both sides of the goal come to the same, over the rules where
+    /// these have ranks, and else inside the domains that are found for the goal, where the rules
+    /// have ranks and a cover: nodes are visited by lists, the first with no choices on a path, the
+    /// last with at most `depth` of them, and at most `budget` nodes are visited. The depth is at
+    /// most 12, and the rules have no domains.
     ///
     /// The answer is a log that is accepted for the rules and the goal; no certificate and no tree
-    /// in it is deeper than 200, and its rank table has 1 to 15 columns. It has domains exactly where
-    /// the search went inside them. `NoRanks` where there are no ranks, neither of the rules alone
-    /// nor inside domains, `LargeRanks` where a polynomial passed the limits on the way to them;
-    /// `NoPlan` where all lists are visited and no node is closed; `Spent`
+    /// in it is deeper than 200, and its rank table has 1 to 15 columns. It has domains exactly
+    /// where the search went inside them. `NoRanks` where the rules alone have no ranks, and inside
+    /// the domains that are found they have none or no cover; `LargeRanks` where that is so and a
+    /// polynomial passed the limits on the way to the ranks; `NoPlan` where all lists are visited and no node is closed; `Spent`
     /// where there are more nodes than the budget; `Large`, before these two, where a polynomial
     /// passed the limits at a node that was visited. Each of these says exactly that; `NoMemory`
     /// says nothing else.

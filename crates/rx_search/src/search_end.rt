@@ -8,10 +8,11 @@ use thiserror::Error;
 /// Why a search made no log, or why that isn't known.
 #[derive(Debug, Drop, Error)]
 pub enum SearchEnd {
-    /// No ranks are found, neither of the rules alone nor inside the domains that are found.
+    /// The rules alone have no ranks, and inside the domains that are found they have none or no
+    /// cover.
     #[error("no ranks are found")]
     NoRanks,
-    /// No ranks are found so, and a polynomial passes the limits on the way to them.
+    /// That is so, and a polynomial passes the limits on the way to the ranks.
     #[error("a polynomial of the ranks is too large")]
     LargeRanks {
         /// The rows of the goal.
