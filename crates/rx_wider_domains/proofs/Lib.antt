@@ -1,2 +1,3 @@
 -- Lemmas on the definitions of specs/.
+pub mod GroupLaws
 pub mod TakenLaws
