@@ -2,11 +2,13 @@
 use Rattle.std.proofs.Common.{if◌then◌else◌, ◌≡◌, ℕ, ⊥, Bool, true, false, Option, Some, None, List, [], ◌∷◌, sym, ap, subst, ◌∙◌, refl}
 use Rattle.std.proofs.lemmas.Bool.{and_from}
 use Rattle.std.specs.List.{AllZip, list_all}
+use Rattle.std.specs.Option.{option_map}
+use Rattle.std.specs.Prelude.{IfSome}
 use Rattle.rx_row.specs.declared.row.Row.{Row}
-use Rattle.rx_cert.specs.Findings.{Said}
+use Rattle.rx_cert.specs.Findings.{Said, Yes}
 use Rattle.rx_cert.specs.declared.cert.Cert.{Cert}
-use Rattle.rx_domain.specs.Keeping.{KeptPart, parts_kept}
-use Rattle.rx_domain.specs.Setting.{with_domains}
+use Rattle.rx_domain.specs.Keeping.{Keeps, KeptPart, keeping, parts_kept}
+use Rattle.rx_domain.specs.Setting.{bad_domain, with_domains}
 use Rattle.rx_domain.specs.declared.domains.Domains.{Domains}
 use Rattle.rx_find_cover.specs.Coverable.{is_coverable}
 use Rattle.rx_find_domains.specs.Finding.{found_domains}
@@ -125,10 +127,54 @@ module _ (parts : RuleParts) (goal : Equation) where
   stays_begun (begun.Unranked false) other is = absurd (other refl)
 
   -- one that doesn't begins inside the wider domains, if there are some
-  pub begins_found : (found : Option (List (List Row))) →
-      stated_beginning parts goal ≡ Unranked false → found ≡ wider_domains parts goal →
-      beginning parts goal ≡ begun_wider found
-  begins_found found is same = begins_wider (Unranked false) is ∙ ap begun_wider (sym same)
+  module _ (nowhere : stated_beginning parts goal ≡ Unranked false) (found : Option Domains)
+      (rows : option_map (λ (d : Domains). d.rows) found ≡ wider_domains parts goal) where
+    begins_found : beginning parts goal ≡ begun_wider (option_map (λ (d : Domains). d.rows) found)
+    begins_found = begins_wider (Unranked false) nowhere ∙ ap begun_wider (sym rows)
+
+    pub wider_nowhere : found ≡ None → IsBegun parts goal (begun.Unranked false)
+    wider_nowhere none =
+        begins_found ∙ ap (λ o. begun_wider (option_map (λ (d : Domains). d.rows) o)) none
+
+    module _ (domains : Domains) (some : found ≡ Some domains) where
+      there : (P : Domains → Type 0) → IfSome found P → P domains
+      there P is = subst (λ (o : Option Domains). IfSome o P) some is
+
+      pub wider_found : IfSome found (λ d. bad_domain parts.symbols d.rows ≡ None) →
+          IfSome found (λ d. keeping (with_domains parts d.rows) goal d.keeps ≡ Keeps) →
+          IfSome found (λ d. AreAllKeeps (with_domains parts d.rows) goal d.keeps) →
+          AreFound Wider parts goal domains
+      wider_found lawful keeps certificates = record {
+        rows = sym rows ∙ ap (option_map (λ (d : Domains). d.rows)) some;
+        lawful = there (λ d. bad_domain parts.symbols d.rows ≡ None) lawful;
+        keeps = there (λ d. keeping (with_domains parts d.rows) goal d.keeps ≡ Keeps) keeps;
+        shallow =
+            domains_shallow parts goal domains
+            (there (λ d. AreAllKeeps (with_domains parts d.rows) goal d.keeps) certificates);
+      }
+
+      pub wider_begun : (inside : Inside) → IsInside parts goal inside → inside.kind ≡ Wider →
+          inside.domains ≡ domains →
+          IfSome found (λ d. is_coverable (with_domains parts d.rows) ≡ true) →
+          IfSome found (λ d. ranked Wider (with_domains parts d.rows) [] ≡ Yes) →
+          IsBegun parts goal (begun.Inside inside)
+      wider_begun inside is kind same coverable ranks =
+          let set : inside.rules ≡ with_domains parts domains.rows =
+          is.set ∙ ap (λ (d : Domains). with_domains parts d.rows) same in
+          let ready : IsReady Wider inside.rules = record {
+            coverable =
+                ap is_coverable set
+                ∙ there (λ d. is_coverable (with_domains parts d.rows) ≡ true) coverable;
+            ranked =
+                ap (λ r. ranked Wider r []) set
+                ∙ there (λ d. ranked Wider (with_domains parts d.rows) [] ≡ Yes) ranks;
+          } in (
+            begins_found
+                ∙ ap (λ o. begun_wider (option_map (λ (d : Domains). d.rows) o)) some
+                ∙ (λ i. Over (sym kind i) (Some (sym same i).rows)),
+            is,
+            subst (λ k. IsReady k inside.rules) (sym kind) ready,
+          )
 
   -- ---- what a search comes to
 

@@ -186,8 +186,8 @@ fn begin_with<S: FnMut(&Constraint) -> Result<Option<Cert>, FmEnd>>(
     }
 }
 
-/// Where a search begins that doesn't go over the rules as they are, before wider domains are looked
-/// for.
+/// Where a search begins that doesn't go over the rules as they are, before wider domains are
+/// looked for.
 fn begin_inside<S: FnMut(&Constraint) -> Result<Option<Cert>, FmEnd>>(
     alloc: Global,
     rules: &RuleSet,
@@ -255,8 +255,8 @@ fn begin_wider<S: FnMut(&Constraint) -> Result<Option<Cert>, FmEnd>>(
 /// Where a search for the goal begins: over the rules, whose pairs are listed, where these have
 /// ranks; inside the domains that are found for the goal, where the rules alone have no ranks, and
 /// the rules with these domains are coverable and have ranks; inside the wider domains, where there
-/// are none so, nothing passed the limits on the way to ranks, and there are wider domains; and else
-/// nowhere. Tests of pairs are kept in the memo. Fails only where there is no memory.
+/// are none so, nothing passed the limits on the way to ranks, and there are wider domains; and
+/// else nowhere. Tests of pairs are kept in the memo. Fails only where there is no memory.
 pub fn begin<S: FnMut(&Constraint) -> Result<Option<Cert>, FmEnd>>(
     alloc: Global,
     rules: &RuleSet,

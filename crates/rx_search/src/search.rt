@@ -198,14 +198,13 @@ pub fn log_of<S: FnMut(&Constraint) -> Result<Option<Cert>, FmEnd>>(
     }
 }
 
-/// Searches for a proof over rules that have ranks, whose pairs are listed: the visits alone, at most
-/// `budget` of them, of nodes with at most `depth` choices on a path, of which at most `most_kept`
-/// are kept from one list of visits to the next. Tests of pairs are kept in the memo.
+/// Searches for a proof over rules that have ranks, whose pairs are listed: the visits alone, at
+/// most `budget` of them, of nodes with at most `depth` choices on a path, of which at most
+/// `most_kept` are kept from one list of visits to the next. Tests of pairs are kept in the memo.
 ///
-/// The answer is a log without domains, which is accepted for the goal and the rules with the domains
-/// that these have; no certificate and no tree in it is deeper than 200, and its rank table has 1
-        to
-/// 15 columns. `NoPlan`, `Spent` and `Large` are as of `Search::search`.
+/// The answer is a log without domains, which is accepted for the goal and the rules with the
+/// domains that these have; no certificate and no tree in it is deeper than 200, and its rank table
+/// has 1 to 15 columns. `NoPlan`, `Spent` and `Large` are as of `Search::search`.
 pub fn search_over<S: FnMut(&Constraint) -> Result<Option<Cert>, FmEnd>>(
     alloc: Global,
     space: &SearchSpace<'_>,
