@@ -1,6 +1,7 @@
 //! Trees of the C subset: expressions, statements, functions and programs, with their heights and
 //! exact copies, the functions that they call, which functions are straight, which expressions may
-//! be preconditions, and when a resolved program's slots and calls are in order.
+//! be preconditions, and when a resolved program's slots and calls are in order. And the two kinds
+//! of integers that the values of a program may be.
 //!
 //! Contracts see each tree as plain data, so that `≡` compares trees. What a `u32` names is the
 //! reader's affair: in a program as it was read it is the number of a token, and in a resolved one
@@ -9,6 +10,7 @@
 
 mod expr;
 mod forms;
+mod integers;
 pub mod laws;
 mod parts;
 mod program;
@@ -16,6 +18,7 @@ mod stmt;
 
 pub use expr::{BinOp, Expr, UnOp, expr_height};
 pub use forms::{is_row_form, straight};
+pub use integers::Integers;
 pub use laws::{
     one_fault_is_out_of_order, scoped_programs_name_what_is_there,
     straight_expressions_are_one_notion,

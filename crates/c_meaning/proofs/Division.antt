@@ -8,7 +8,9 @@ use Rattle.std.proofs.lemmas.Bool.Decides.{Decides-int_eq}
 use Rattle.c_ast.specs.declared.expr.BinOp.TheVariants as Op
 use Rattle.c_ast.specs.declared.expr.Expr.{Expr}
 use Rattle.c_ast.specs.declared.expr.Expr.TheVariants.{Binary}
-use Rattle.c_meaning.specs.Outcomes.{Outcome, Value, DivisionError, State}
+use Rattle.c_ast.specs.declared.integers.Integers.{Integers}
+use Rattle.c_ast.specs.declared.integers.Integers.TheVariants.{Unbounded}
+use Rattle.c_meaning.specs.Outcomes.{Outcome, Value, Error, Division, State}
 use Rattle.c_meaning.specs.Expressions.{Calls, is_zero, quotient, remainder, expr}
 use Rattle.c_meaning.specs.Laws.{Truncates}
 use Rattle.c_meaning.proofs.Equations.{expr-Binary}
@@ -40,7 +42,7 @@ not_above (pos a) y below =
     rw (none, zero-mod (unsigned_abs y)) (omega (arith, ints))
 not_above (negsuc a) y below = at_most_zero (suc a % unsigned_abs y)
 
-truncated : (x y : ℤ) → ¬ (y ≡ pos 0) → Truncates x y (quotient x y) (remainder x y)
+truncated : (x y : ℤ) → ¬ (y ≡ pos 0) → Truncates x y (quotient Unbounded x y) (remainder x y)
 truncated x y nonzero = record {
   q = int_div x y;
   r = int_rem x y;
@@ -52,28 +54,34 @@ truncated x y nonzero = record {
   not_above = not_above x y;
 }
 
-module _ (calls : Calls) (a b : Expr) (s : State) (x y : ℤ) (left : expr calls a s ≡ Value x)
-    (right : expr calls b s ≡ Value y) where
+module _ (integers : Integers) (calls : Calls) (a b : Expr) (s : State) (x y : ℤ)
+    (left : expr integers calls a s ≡ Value x) (right : expr integers calls b s ≡ Value y) where
   -- the two expressions divide the values of their operands
-  quotient_outcome : expr calls (Binary Op.Div a b) s ≡ quotient x y
-  quotient_outcome = expr-Binary calls Op.Div a b s ∙ rw (left, right) refl
+  quotient_outcome : expr integers calls (Binary Op.Div a b) s ≡ quotient integers x y
+  quotient_outcome = expr-Binary integers calls Op.Div a b s ∙ rw (left, right) refl
 
-  remainder_outcome : expr calls (Binary Op.Rem a b) s ≡ remainder x y
-  remainder_outcome = expr-Binary calls Op.Rem a b s ∙ rw (left, right) refl
+  remainder_outcome : expr integers calls (Binary Op.Rem a b) s ≡ remainder x y
+  remainder_outcome = expr-Binary integers calls Op.Rem a b s ∙ rw (left, right) refl
 
-  pub truncates : ¬ (y ≡ pos 0) → Truncates x y (expr calls (Binary Op.Div a b) s)
-      (expr calls (Binary Op.Rem a b) s)
-  truncates nonzero =
-      let Q : Outcome ℤ → Type 0 = λ o. Truncates x y o (expr calls (Binary Op.Rem a b) s) in
-      let R : Outcome ℤ → Type 0 = λ o. Truncates x y (quotient x y) o in
-      subst Q (sym quotient_outcome) (subst R (sym remainder_outcome) (truncated x y nonzero))
+-- of mathematical integers with a divisor other than 0 they are quotient and remainder
+pub truncates : (calls : Calls) (a b : Expr) (s : State) (x y : ℤ) →
+    expr Unbounded calls a s ≡ Value x → expr Unbounded calls b s ≡ Value y → ¬ (y ≡ pos 0) →
+    Truncates x y (expr Unbounded calls (Binary Op.Div a b) s)
+    (expr Unbounded calls (Binary Op.Rem a b) s)
+truncates calls a b s x y left right nonzero =
+    let Q : Outcome ℤ → Type 0 =
+    λ o. Truncates x y o (expr Unbounded calls (Binary Op.Rem a b) s) in
+    let R : Outcome ℤ → Type 0 = λ o. Truncates x y (quotient Unbounded x y) o in
+    subst Q (sym (quotient_outcome Unbounded calls a b s x y left right))
+    (subst R (sym (remainder_outcome Unbounded calls a b s x y left right))
+    (truncated x y nonzero))
 
 -- by 0 both give the division error
-pub by_zero : (calls : Calls) (a b : Expr) (s : State) (x : ℤ) → expr calls a s ≡ Value x →
-    expr calls b s ≡ Value (pos 0)
-    → (expr calls (Binary Op.Div a b) s ≡ DivisionError) ×
-    (expr calls (Binary Op.Rem a b) s ≡ DivisionError)
-by_zero calls a b s x left right = (
-  quotient_outcome calls a b s x (pos 0) left right,
-  remainder_outcome calls a b s x (pos 0) left right,
+pub by_zero : (integers : Integers) (calls : Calls) (a b : Expr) (s : State) (x : ℤ) →
+    expr integers calls a s ≡ Value x → expr integers calls b s ≡ Value (pos 0)
+    → (expr integers calls (Binary Op.Div a b) s ≡ Error Division) ×
+    (expr integers calls (Binary Op.Rem a b) s ≡ Error Division)
+by_zero integers calls a b s x left right = (
+  quotient_outcome integers calls a b s x (pos 0) left right,
+  remainder_outcome integers calls a b s x (pos 0) left right,
 )

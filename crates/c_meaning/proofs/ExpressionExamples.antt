@@ -1,21 +1,26 @@
--- The definitions, run on programs of expressions and calls. The values come from an independent
+-- The definitions, run by the mathematical integers on programs of expressions and calls. The values come from an independent
 -- second program that runs C by rounds. For most calls there is the least number of rounds with
 -- which they have an outcome, and with one round less that more are needed: the test that ends a
 -- loop takes a round.
-use Rattle.std.proofs.Common.{◌≡◌, ℕ, zero, suc, pos, negsuc, None, List, [], ◌∷◌, refl}
+use Rattle.std.proofs.Common.{◌≡◌, ℕ, ℤ, zero, suc, pos, negsuc, None, List, [], ◌∷◌, refl}
 use Rattle.c_ast.specs.declared.expr.UnOp.TheVariants as Sign
 use Rattle.c_ast.specs.declared.expr.BinOp.TheVariants as Op
 use Rattle.c_ast.specs.declared.expr.Expr.TheVariants.{Lit, Var, Unary, Binary, Choose, Apply}
 use Rattle.c_ast.specs.declared.stmt.Stmt.{Stmt}
 use Rattle.c_ast.specs.declared.stmt.Stmt.TheVariants.{If, While, Return, Block}
+use Rattle.c_ast.specs.declared.integers.Integers.TheVariants.{Unbounded}
 use Rattle.c_ast.specs.declared.program.Function.{Function}
 use Rattle.c_ast.specs.declared.program.Resolved.{Resolved}
-use Rattle.c_meaning.specs.Outcomes.{Value, DivisionError, More}
-use Rattle.c_meaning.specs.Programs.{call_outcome}
+use Rattle.c_meaning.specs.Outcomes.{Outcome, Value, Error, Division, More}
+use Rattle.c_meaning.specs.Programs as programs
 use Rattle.c_meaning.proofs.Equations.{equations}
 
+-- the outcome of a call with a number of rounds, by the mathematical integers
+abbrev call_outcome : Resolved → ℕ → ℕ → List ℤ → Outcome ℤ
+call_outcome = programs.call_outcome Unbounded
+
 -- a function, by its name's token, its parameters and its body
-abbrev function : ℕ → List ℕ → List Stmt → Function
+abbrev pub function : ℕ → List ℕ → List Stmt → Function
 function name params body = record { name = name; params = params; body = body }
 
 -- int f(int a, int b) { return a * b - (a + b) + -a - +b; }
@@ -62,10 +67,10 @@ divided-4 = simp equations
 divided-5 : call_outcome divided 0 0 (pos 7 ∷ pos 0 ∷ []) ≡ More
 divided-5 = refl
 
-divided-6 : call_outcome divided 1 0 (pos 7 ∷ pos 0 ∷ []) ≡ DivisionError
+divided-6 : call_outcome divided 1 0 (pos 7 ∷ pos 0 ∷ []) ≡ Error Division
 divided-6 = simp equations
 
-divided-7 : call_outcome divided 1 0 (pos 0 ∷ pos 0 ∷ []) ≡ DivisionError
+divided-7 : call_outcome divided 1 0 (pos 0 ∷ pos 0 ∷ []) ≡ Error Division
 divided-7 = simp equations
 
 -- int f(int a, int b) { return a % b; }
@@ -90,7 +95,7 @@ left_over-3 = simp equations
 left_over-4 : call_outcome left_over 1 0 (negsuc 6 ∷ negsuc 1 ∷ []) ≡ Value (negsuc 0)
 left_over-4 = simp equations
 
-left_over-5 : call_outcome left_over 1 0 (pos 5 ∷ pos 0 ∷ []) ≡ DivisionError
+left_over-5 : call_outcome left_over 1 0 (pos 5 ∷ pos 0 ∷ []) ≡ Error Division
 left_over-5 = simp equations
 
 -- int f(int a, int b) { return (a < b) + 2 * (a <= b) + 4 * (a > b) + 8 * (a >= b) + 16 * (a == b)
@@ -194,7 +199,7 @@ chosen-1 = simp equations
 chosen-2 : call_outcome chosen 1 0 (pos 2 ∷ pos 5 ∷ []) ≡ Value (pos 2)
 chosen-2 = simp equations
 
-chosen-3 : call_outcome chosen 1 0 (pos 0 ∷ pos 5 ∷ []) ≡ DivisionError
+chosen-3 : call_outcome chosen 1 0 (pos 0 ∷ pos 5 ∷ []) ≡ Error Division
 chosen-3 = simp equations
 
 -- int f(int a) { return 1 / a + never(); } int never(void) { while (1) { } }
@@ -210,7 +215,7 @@ error_first = record {
       [];
 }
 
-error_first-1 : call_outcome error_first 1 0 (pos 0 ∷ []) ≡ DivisionError
+error_first-1 : call_outcome error_first 1 0 (pos 0 ∷ []) ≡ Error Division
 error_first-1 = simp equations
 
 error_first-2 : call_outcome error_first 6 0 (pos 1 ∷ []) ≡ More
@@ -249,7 +254,7 @@ arguments = record {
       [];
 }
 
-arguments-1 : call_outcome arguments 1 0 (pos 0 ∷ []) ≡ DivisionError
+arguments-1 : call_outcome arguments 1 0 (pos 0 ∷ []) ≡ Error Division
 arguments-1 = simp equations
 
 arguments-2 : call_outcome arguments 6 0 (pos 1 ∷ []) ≡ More

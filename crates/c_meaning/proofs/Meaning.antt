@@ -10,6 +10,7 @@ use Rattle.c_ast.specs.declared.expr.Expr.{Expr}
 use Rattle.c_ast.specs.declared.expr.Expr.TheOpen.{Expr-F}
 use Rattle.c_ast.specs.declared.expr.Expr.TheFolds.{map-Expr, fold-roll-Expr, ind-Expr}
 use Rattle.c_ast.specs.declared.expr.Expr.TheViews.{roll-Expr}
+use Rattle.c_ast.specs.declared.integers.Integers.TheVariants.{Unbounded}
 use Rattle.c_ast.specs.declared.stmt.Stmt.{Stmt}
 use Rattle.c_ast.specs.declared.stmt.Stmt.TheOpen.{Stmt-F}
 use Rattle.c_ast.specs.declared.stmt.Stmt.TheFolds.{map-Stmt, fold-roll-Stmt, ind-Stmt}
@@ -32,7 +33,7 @@ use Rattle.c_meaning.specs.Counted.{returned, body_run, nested_calls, counted}
 -- a run that leads to a value or to the division error has this outcome; it leaves at most n rounds
 pub data Means (A : Type 0) (n : ℕ) : Run A → Outcome A → Type 0 where
   Leaves : {x : A} {m : ℕ} → m ≤ n → Means A n (Value x m) (outcomes.Value x)
-  Divides : Means A n DivisionError outcomes.DivisionError
+  Divides : Means A n DivisionError (outcomes.Error outcomes.Division)
   Waits : {outcome : Outcome A} → Means A n More outcome
   Passes : {outcome : Outcome A} → Means A n Over outcome
 
@@ -72,7 +73,7 @@ means_exact x n = fits (fits_i128 x)
     fits false = Passes
 
 means_unary : (op : UnOp) (x : ℤ) (n : ℕ) → Means ℤ n (unary op x n)
-    (outcomes.Value (expressions.unary op x))
+    (expressions.unary Unbounded op x)
 means_unary Plus x n = all_left
 means_unary Minus x n = means_exact (neg_ℤ x) n
 means_unary Not x n = all_left
@@ -94,7 +95,7 @@ means_or false x rest o n means = all_left
 means_binary : (op : BinOp) {n : ℕ} {x : Run ℤ} {o p : Outcome ℤ} {right : ℕ → Run ℤ} →
     Means ℤ n x o
     → ((m : ℕ) → m ≤ n → Means ℤ m (right m) p) →
-    Means ℤ n (on_value x (λ v. with_left op v right)) (expressions.binary op o p)
+    Means ℤ n (on_value x (λ v. with_left op v right)) (expressions.binary Unbounded op o p)
 means_binary bin_op.Add left right =
     means_on_value left (λ x m low. means_on_value (right m low)
     (λ y k under. means_exact (x +ℤ y) k))
@@ -180,16 +181,16 @@ means_returned (Return k) n = all_left
 module _ (program : Resolved) where
   -- what calls, expressions and statements have as their outcomes with some rounds
   abbrev evaluated : Expr → ℕ → State → Outcome ℤ
-  evaluated e n s = expressions.expr (calls_with (rounds program n)) e s
+  evaluated e n s = expressions.expr Unbounded (calls_with (rounds Unbounded program n)) e s
 
   abbrev executed : Stmt → ℕ → State → Outcome Flow
-  executed t n s = statements.stmt t (rounds program n) s
+  executed t n s = statements.stmt Unbounded t (rounds Unbounded program n) s
 
   -- a loop, however many turns it may take
   means_turns : (run : ℕ → State → Run Turn) (outcome : Rounds → State → Outcome Turn) →
-      FromEach run (λ n. outcome (rounds program n))
+      FromEach run (λ n. outcome (rounds Unbounded program n))
       → (most m n : ℕ) → m ≤ n → (s : State) →
-      Means Flow m (turns run most m s) (statements.loop outcome (rounds program n) s)
+      Means Flow m (turns run most m s) (statements.loop outcome (rounds Unbounded program n) s)
   means_turns run outcome each zero m n low s = Waits
   means_turns run outcome each (suc most) zero n low s = Waits
   means_turns run outcome each (suc most) (suc m) zero low s = absurd (omega arith)
@@ -197,18 +198,18 @@ module _ (program : Resolved) where
       let fewer : m ≤ suc m = omega arith in
       widened fewer (means_on_value (each m n (omega arith) s)
       (λ turn k under. means_on_again (turns run most)
-      (statements.loop outcome (rounds program n)) turn
+      (statements.loop outcome (rounds Unbounded program n)) turn
       (λ t. means_turns run outcome each most k n (omega arith) t)))
 
   means_loop : (run : ℕ → State → Run Turn) (outcome : Rounds → State → Outcome Turn) →
-      FromEach run (λ n. outcome (rounds program n))
-      → FromEach (loop run) (λ n. statements.loop outcome (rounds program n))
+      FromEach run (λ n. outcome (rounds Unbounded program n))
+      → FromEach (loop run) (λ n. statements.loop outcome (rounds Unbounded program n))
   means_loop run outcome each m n low s = means_turns run outcome each m m n low s
 
   -- calls that mean what those of the program do
   pub record CallsMean (calls : Calls) : Type 0 where
     pub each : (m n : ℕ) → m ≤ n → (f : ℕ) (arguments : List ℤ) →
-        Means ℤ m (calls m f arguments) (call_outcome program n f arguments)
+        Means ℤ m (calls m f arguments) (call_outcome Unbounded program n f arguments)
 
   module _ (calls : Calls) (means : CallsMean calls) where
     abbrev ExprMeans : Expr → Type 0
@@ -219,7 +220,7 @@ module _ (program : Resolved) where
 
     means_values : (ps : List ExprPart) → FromEach
         (values (map (expr calls) (map (λ (p : ExprPart). p.0) ps)))
-        (λ n. expressions.values (map (expressions.expr (calls_with (rounds program n)))
+        (λ n. expressions.values (map (expressions.expr Unbounded (calls_with (rounds Unbounded program n)))
         (map (λ (p : ExprPart). p.0) ps)))
     means_values [] m n low s = all_left
     means_values (p ∷ ps) m n low s =
@@ -229,8 +230,8 @@ module _ (program : Resolved) where
     expr_level_means : (y : Expr-F ExprPart) (m n : ℕ) → m ≤ n → (s : State) → Means ℤ m
         (expr_level calls (map-Expr Expr Evaluation (expr calls)
         (map-Expr ExprPart Expr (λ p. p.0) y)) m s)
-        (expressions.expr_level (calls_with (rounds program n))
-        (map-Expr Expr (State → Outcome ℤ) (expressions.expr (calls_with (rounds program n)))
+        (expressions.expr_level Unbounded (calls_with (rounds Unbounded program n))
+        (map-Expr Expr (State → Outcome ℤ) (expressions.expr Unbounded (calls_with (rounds Unbounded program n)))
         (map-Expr ExprPart Expr (λ p. p.0) y)) s)
     expr_level_means (Expr-F.Lit k) m n low s = all_left
     expr_level_means (Expr-F.Var v) m n low s = all_left
@@ -247,19 +248,19 @@ module _ (program : Resolved) where
     expr_step : (x : Expr-F Expr) (y : Expr-F ExprPart) → map-Expr ExprPart Expr (λ p. p.0) y ≡ x →
         ExprMeans (roll-Expr x)
     expr_step x y is m n low s =
-        let c : expressions.Calls = calls_with (rounds program n) in
+        let c : expressions.Calls = calls_with (rounds Unbounded program n) in
         let opened : Means ℤ m (expr_level calls (map-Expr Expr Evaluation (expr calls) x) m s)
-        (expressions.expr_level c (map-Expr Expr (State → Outcome ℤ) (expressions.expr c) x) s) =
+        (expressions.expr_level Unbounded c (map-Expr Expr (State → Outcome ℤ) (expressions.expr Unbounded c) x) s) =
         let P : Expr-F Expr → Type 0 = λ z. Means ℤ m
         (expr_level calls (map-Expr Expr Evaluation (expr calls) z) m s)
-        (expressions.expr_level c (map-Expr Expr (State → Outcome ℤ) (expressions.expr c) z) s) in
+        (expressions.expr_level Unbounded c (map-Expr Expr (State → Outcome ℤ) (expressions.expr Unbounded c) z) s) in
         subst P is (expr_level_means y m n low s) in
         let L : Evaluation → Type 0 = λ e. Means ℤ m (e m s)
-        (expressions.expr_level c (map-Expr Expr (State → Outcome ℤ) (expressions.expr c) x) s)
+        (expressions.expr_level Unbounded c (map-Expr Expr (State → Outcome ℤ) (expressions.expr Unbounded c) x) s)
         in
         let R : (State → Outcome ℤ) → Type 0 = λ e.
         Means ℤ m (expr calls (roll-Expr x) m s) (e s) in
-        subst R (sym (fold-roll-Expr (State → Outcome ℤ) (expressions.expr_level c) x))
+        subst R (sym (fold-roll-Expr (State → Outcome ℤ) (expressions.expr_level Unbounded c) x))
         (subst L (sym (fold-roll-Expr Evaluation (expr_level calls) x)) opened)
 
     -- an expression
@@ -267,17 +268,17 @@ module _ (program : Resolved) where
     expr_means = ind-Expr ExprMeans expr_step
 
     condition_means : (test : Option Expr) → FromEach (condition calls test)
-        (λ n. statements.condition test (rounds program n))
+        (λ n. statements.condition Unbounded test (rounds Unbounded program n))
     condition_means None m n low s = all_left
     condition_means (Some e) m n low s = expr_means e m n low s
 
     -- a turn of a `while` and of a `for`
     while_turn_means : (test : Option Expr) (change body : Execution)
         (first second : statements.Execution)
-        → FromEach change (λ n. first (rounds program n)) →
-        FromEach body (λ n. second (rounds program n))
+        → FromEach change (λ n. first (rounds Unbounded program n)) →
+        FromEach body (λ n. second (rounds Unbounded program n))
         → FromEach (while_turn calls test change body)
-        (λ n. statements.while_turn test first second (rounds program n))
+        (λ n. statements.while_turn Unbounded test first second (rounds Unbounded program n))
     while_turn_means test change body first second changes bodies m n low s =
         means_on_value (condition_means test m n low s) (λ x k under. means_if (is_zero x) all_left
         (means_on_value (bodies k n (omega arith) s)
@@ -287,8 +288,8 @@ module _ (program : Resolved) where
 
     -- and of a `do`
     do_turn_means : (e : Expr) (body : Execution) (second : statements.Execution) →
-        FromEach body (λ n. second (rounds program n))
-        → FromEach (do_turn calls e body) (λ n. statements.do_turn e second (rounds program n))
+        FromEach body (λ n. second (rounds Unbounded program n))
+        → FromEach (do_turn calls e body) (λ n. statements.do_turn Unbounded e second (rounds Unbounded program n))
     do_turn_means e body second bodies m n low s =
         means_on_value (bodies m n low s) (λ flow k under. means_after_body _ _ flow (λ t.
         means_on_value (expr_means e k n (omega arith) t)
@@ -302,25 +303,25 @@ module _ (program : Resolved) where
 
     in_order_parts : (ps : List StmtPart) → FromEach
         (in_order (map (stmt calls) (map (λ (p : StmtPart). p.0) ps)))
-        (λ n. statements.in_order (map statements.stmt (map (λ (p : StmtPart). p.0) ps))
-        (rounds program n))
+        (λ n. statements.in_order (map (statements.stmt Unbounded) (map (λ (p : StmtPart). p.0) ps))
+        (rounds Unbounded program n))
     in_order_parts [] m n low s = all_left
     in_order_parts (p ∷ ps) m n low s =
         means_on_value (p.1 m n low s) (λ flow k under.
         means_on_next _ _ flow (λ t. in_order_parts ps k n (omega arith) t))
 
-    nothing_means : FromEach (optional None) (λ n. statements.optional None (rounds program n))
+    nothing_means : FromEach (optional None) (λ n. statements.optional None (rounds Unbounded program n))
     nothing_means m n low s = all_left
 
     for_means : (ps : List StmtPart) (run : ℕ → State → Run Turn)
-        (outcome : Rounds → State → Outcome Turn) → FromEach run (λ n. outcome (rounds program n))
+        (outcome : Rounds → State → Outcome Turn) → FromEach run (λ n. outcome (rounds Unbounded program n))
         → (count m n : ℕ) → m ≤ n → (s : State) → Means Flow m
         (on_value (on_value (in_order (map (stmt calls) (map (λ (p : StmtPart). p.0) ps)) m s)
         (on_next (loop run))) (leave count))
         (outcomes.on_value (outcomes.on_value
-        (statements.in_order (map statements.stmt (map (λ (p : StmtPart). p.0) ps))
-        (rounds program n) s)
-        (statements.on_next (statements.loop outcome (rounds program n)))) (statements.leave count))
+        (statements.in_order (map (statements.stmt Unbounded) (map (λ (p : StmtPart). p.0) ps))
+        (rounds Unbounded program n) s)
+        (statements.on_next (statements.loop outcome (rounds Unbounded program n)))) (statements.leave count))
     for_means ps run outcome each count m n low s =
         means_on_value (means_on_value (in_order_parts ps m n low s)
         (λ flow k under. means_on_next _ _ flow
@@ -330,8 +331,8 @@ module _ (program : Resolved) where
     stmt_level_means : (y : Stmt-F StmtPart) → FromEach
         (stmt_level calls (map-Stmt Stmt Execution (stmt calls)
         (map-Stmt StmtPart Stmt (λ p. p.0) y)))
-        (λ n. statements.stmt_level (map-Stmt Stmt statements.Execution statements.stmt
-        (map-Stmt StmtPart Stmt (λ p. p.0) y)) (rounds program n))
+        (λ n. statements.stmt_level Unbounded (map-Stmt Stmt statements.Execution (statements.stmt Unbounded)
+        (map-Stmt StmtPart Stmt (λ p. p.0) y)) (rounds Unbounded program n))
     stmt_level_means Stmt-F.Empty m n low s = all_left
     stmt_level_means (Stmt-F.Declare k None) m n low s = all_left
     stmt_level_means (Stmt-F.Declare k (Some e)) m n low s =
@@ -347,15 +348,15 @@ module _ (program : Resolved) where
         (p.1 k n (omega arith) s))
     stmt_level_means (Stmt-F.While e p) m n low s =
         means_loop _ _ (while_turn_means (Some e) (optional None) (stmt calls p.0)
-        (statements.optional None) (statements.stmt p.0) nothing_means p.1) m n low s
+        (statements.optional None) (statements.stmt Unbounded p.0) nothing_means p.1) m n low s
     stmt_level_means (Stmt-F.DoWhile p e) m n low s =
-        means_loop _ _ (do_turn_means e (stmt calls p.0) (statements.stmt p.0) p.1) m n low s
+        means_loop _ _ (do_turn_means e (stmt calls p.0) (statements.stmt Unbounded p.0) p.1) m n low s
     stmt_level_means (Stmt-F.For ps test None p) m n low s = for_means ps _ _
         (while_turn_means test (optional None) (stmt calls p.0) (statements.optional None)
-        (statements.stmt p.0) nothing_means p.1) (length s) m n low s
+        (statements.stmt Unbounded p.0) nothing_means p.1) (length s) m n low s
     stmt_level_means (Stmt-F.For ps test (Some change) p) m n low s = for_means ps _ _
-        (while_turn_means test (stmt calls change.0) (stmt calls p.0) (statements.stmt change.0)
-        (statements.stmt p.0) change.1 p.1) (length s) m n low s
+        (while_turn_means test (stmt calls change.0) (stmt calls p.0) (statements.stmt Unbounded change.0)
+        (statements.stmt Unbounded p.0) change.1 p.1) (length s) m n low s
     stmt_level_means (Stmt-F.Break token) m n low s = all_left
     stmt_level_means (Stmt-F.Continue token) m n low s = all_left
     stmt_level_means (Stmt-F.Return e) m n low s =
@@ -367,19 +368,19 @@ module _ (program : Resolved) where
         StmtMeans (roll-Stmt x)
     stmt_step x y is m n low s =
         let opened : Means Flow m (stmt_level calls (map-Stmt Stmt Execution (stmt calls) x) m s)
-        (statements.stmt_level (map-Stmt Stmt statements.Execution statements.stmt x)
-        (rounds program n) s) =
+        (statements.stmt_level Unbounded (map-Stmt Stmt statements.Execution (statements.stmt Unbounded) x)
+        (rounds Unbounded program n) s) =
         let P : Stmt-F Stmt → Type 0 = λ z. Means Flow m
         (stmt_level calls (map-Stmt Stmt Execution (stmt calls) z) m s)
-        (statements.stmt_level (map-Stmt Stmt statements.Execution statements.stmt z)
-        (rounds program n) s) in
+        (statements.stmt_level Unbounded (map-Stmt Stmt statements.Execution (statements.stmt Unbounded) z)
+        (rounds Unbounded program n) s) in
         subst P is (stmt_level_means y m n low s) in
         let L : Execution → Type 0 = λ e. Means Flow m (e m s)
-        (statements.stmt_level (map-Stmt Stmt statements.Execution statements.stmt x)
-        (rounds program n) s) in
+        (statements.stmt_level Unbounded (map-Stmt Stmt statements.Execution (statements.stmt Unbounded) x)
+        (rounds Unbounded program n) s) in
         let R : statements.Execution → Type 0 = λ e.
-        Means Flow m (stmt calls (roll-Stmt x) m s) (e (rounds program n) s) in
-        subst R (sym (fold-roll-Stmt statements.Execution statements.stmt_level x))
+        Means Flow m (stmt calls (roll-Stmt x) m s) (e (rounds Unbounded program n) s) in
+        subst R (sym (fold-roll-Stmt statements.Execution (statements.stmt_level Unbounded) x))
         (subst L (sym (fold-roll-Stmt Execution (stmt_level calls) x)) opened)
 
     -- a statement
@@ -388,7 +389,7 @@ module _ (program : Resolved) where
 
     -- statements in their order
     in_order_means : (ts : List Stmt) → FromEach (in_order (map (stmt calls) ts))
-        (λ n. statements.in_order (map statements.stmt ts) (rounds program n))
+        (λ n. statements.in_order (map (statements.stmt Unbounded) ts) (rounds Unbounded program n))
     in_order_means [] m n low s = all_left
     in_order_means (t ∷ ts) m n low s =
         means_on_value (stmt_means t m n low s)
@@ -397,7 +398,7 @@ module _ (program : Resolved) where
     -- a function's body
     body_means : (function : Option Function) (m n : ℕ) → m ≤ n → (arguments : List ℤ)
         → Means ℤ m (body_run function calls m arguments)
-        (body_outcome function (rounds program n) arguments)
+        (body_outcome Unbounded function (rounds Unbounded program n) arguments)
     body_means None m n low arguments = Waits
     body_means (Some function) m n low arguments =
         means_on_value (in_order_means function.body m n low arguments)
@@ -405,7 +406,7 @@ module _ (program : Resolved) where
 
   -- a call, however deep calls may be nested
   nested_means : (most m n : ℕ) → m ≤ n → (f : ℕ) (arguments : List ℤ)
-      → Means ℤ m (nested_calls program most m f arguments) (call_outcome program n f arguments)
+      → Means ℤ m (nested_calls program most m f arguments) (call_outcome Unbounded program n f arguments)
   nested_means zero m n low f arguments = Waits
   nested_means (suc most) zero n low f arguments = Waits
   nested_means (suc most) (suc m) zero low f arguments = absurd (omega arith)
@@ -421,7 +422,7 @@ module _ (program : Resolved) where
 -- what the outcome is, where the run leads to a value or to the division error
 abbrev Meant : {A : Type 0} → Run A → Outcome A → Type 0
 Meant (Value x left) o = o ≡ outcomes.Value x
-Meant DivisionError o = o ≡ outcomes.DivisionError
+Meant DivisionError o = o ≡ outcomes.Error outcomes.Division
 Meant More o = Unit {0}
 Meant Over o = Unit {0}
 
@@ -437,18 +438,18 @@ value_meant {A = A} n run o x left means is =
     let P : Run A → Type 0 = λ r. Meant r o in subst P is (meant_is means)
 
 pub division_meant : {A : Type 0} (n : ℕ) (run : Run A) (o : Outcome A) → Means A n run o → run ≡
-    DivisionError → o ≡ outcomes.DivisionError
+    DivisionError → o ≡ outcomes.Error outcomes.Division
 division_meant {A = A} n run o means is =
     let P : Run A → Type 0 = λ r. Meant r o in subst P is (meant_is means)
 
 -- a call of the counted run, by the meaning with as many rounds
 pub call_means : (program : Resolved) (n f : ℕ) (arguments : List ℤ) →
-    Means ℤ n (counted program n f arguments) (call_outcome program n f arguments)
+    Means ℤ n (counted program n f arguments) (call_outcome Unbounded program n f arguments)
 call_means program n f arguments = (counted_means program).each n n (omega arith) f arguments
 
 -- an expression, by the meaning with as many rounds
 pub expression_means : (program : Resolved) (e : Expr) (n : ℕ) (s : State)
     → Means ℤ n (expr (counted program) e n s)
-    (expressions.expr (calls_with (rounds program n)) e s)
+    (expressions.expr Unbounded (calls_with (rounds Unbounded program n)) e s)
 expression_means program e n s =
     expr_means program (counted program) (counted_means program) e n n (omega arith) s

@@ -1,17 +1,23 @@
--- The definitions, run on programs of loops and other statements. The values come from an
+-- The definitions, run by the mathematical integers on programs of loops and other statements. The values come from an
 -- independent second program that runs C by rounds. For most calls there is the least number of
 -- rounds with which they have an outcome, and with one round less that more are needed: the test
 -- that ends a loop takes a round.
-use Rattle.std.proofs.Common.{◌≡◌, ℕ, zero, suc, pos, Some, None, List, [], ◌∷◌, refl, sym, ◌∙◌}
+use Rattle.std.proofs.Common.{◌≡◌, ℕ, ℤ, zero, suc, pos, Some, None, List, [], ◌∷◌, refl, sym, ◌∙◌}
 use Rattle.c_ast.specs.declared.expr.BinOp.TheVariants as Op
 use Rattle.c_ast.specs.declared.expr.Expr.TheVariants.{Lit, Var, Binary, Choose, Apply}
 use Rattle.c_ast.specs.declared.stmt.Stmt.{Stmt}
 use Rattle.c_ast.specs.declared.stmt.Stmt.TheVariants.{Empty, Declare, Assign, If, While, DoWhile, For, Break, Continue, Return, Block}
+use Rattle.c_ast.specs.declared.integers.Integers.TheVariants.{Unbounded}
 use Rattle.c_ast.specs.declared.program.Function.{Function}
 use Rattle.c_ast.specs.declared.program.Resolved.{Resolved}
-use Rattle.c_meaning.specs.Outcomes.{Value, DivisionError, More, State, Next}
-use Rattle.c_meaning.specs.Programs.{rounds, stmt_outcome, call_outcome, Returns}
+use Rattle.c_meaning.specs.Outcomes.{Outcome, Value, Error, Division, More, State, Next}
+use Rattle.c_meaning.specs.Programs as programs
+use Rattle.c_meaning.specs.Programs.{rounds, stmt_outcome, Returns}
 use Rattle.c_meaning.proofs.Equations.{equations, stmt-While}
+
+-- the outcome of a call with a number of rounds, by the mathematical integers
+abbrev call_outcome : Resolved → ℕ → ℕ → List ℤ → Outcome ℤ
+call_outcome = programs.call_outcome Unbounded
 
 -- a function, by its name's token, its parameters and its body
 abbrev function : ℕ → List ℕ → List Stmt → Function
@@ -303,7 +309,7 @@ error_in_callee = record {
 error_in_callee-1 : call_outcome error_in_callee 1 0 (pos 0 ∷ []) ≡ More
 error_in_callee-1 = simp equations
 
-error_in_callee-2 : call_outcome error_in_callee 2 0 (pos 0 ∷ []) ≡ DivisionError
+error_in_callee-2 : call_outcome error_in_callee 2 0 (pos 0 ∷ []) ≡ Error Division
 error_in_callee-2 = simp equations
 
 error_in_callee-3 : call_outcome error_in_callee 0 0 (pos 1 ∷ []) ≡ More
@@ -328,7 +334,7 @@ error_in_change = record {
 error_in_change-1 : call_outcome error_in_change 2 0 (pos 1 ∷ []) ≡ More
 error_in_change-1 = simp equations
 
-error_in_change-2 : call_outcome error_in_change 3 0 (pos 1 ∷ []) ≡ DivisionError
+error_in_change-2 : call_outcome error_in_change 3 0 (pos 1 ∷ []) ≡ Error Division
 error_in_change-2 = simp equations
 
 -- int f(int i) { while (6 / i > 1) i = i - 2; return i; }
@@ -346,7 +352,7 @@ error_in_test = record {
 error_in_test-1 : call_outcome error_in_test 2 0 (pos 2 ∷ []) ≡ More
 error_in_test-1 = simp equations
 
-error_in_test-2 : call_outcome error_in_test 3 0 (pos 2 ∷ []) ≡ DivisionError
+error_in_test-2 : call_outcome error_in_test 3 0 (pos 2 ∷ []) ≡ Error Division
 error_in_test-2 = simp equations
 
 error_in_test-3 : call_outcome error_in_test 1 0 (pos 7 ∷ []) ≡ More
@@ -529,7 +535,7 @@ error_in_first = record {
 error_in_first-1 : call_outcome error_in_first 0 0 (pos 0 ∷ []) ≡ More
 error_in_first-1 = refl
 
-error_in_first-2 : call_outcome error_in_first 1 0 (pos 0 ∷ []) ≡ DivisionError
+error_in_first-2 : call_outcome error_in_first 1 0 (pos 0 ∷ []) ≡ Error Division
 error_in_first-2 = simp equations
 
 error_in_first-3 : call_outcome error_in_first 2 0 (pos 2 ∷ []) ≡ More
@@ -543,15 +549,15 @@ abbrev same : Resolved
 same = record { functions = function 1 (0 ∷ []) (Return (Var 0) ∷ []) ∷ [] }
 
 -- `int x;` gives 0, after the slots in scope
-unset : stmt_outcome same 0 (Declare 1 None) (pos 5 ∷ []) ≡ Value (Next (pos 5 ∷ pos 0 ∷ []))
+unset : stmt_outcome Unbounded same 0 (Declare 1 None) (pos 5 ∷ []) ≡ Value (Next (pos 5 ∷ pos 0 ∷ []))
 unset = simp equations
 
 -- a loop that never ends needs more rounds, however many there are
-never_ends : (n : ℕ) (s : State) → stmt_outcome same n (While (Lit (pos 1)) Empty) s ≡ More
+never_ends : (n : ℕ) (s : State) → stmt_outcome Unbounded same n (While (Lit (pos 1)) Empty) s ≡ More
 never_ends zero s = simp equations
 never_ends (suc n) s =
-    simp equations (sym (stmt-While (Lit (pos 1)) Empty (rounds same n) s) ∙ never_ends n s)
+    simp equations (sym (stmt-While Unbounded (Lit (pos 1)) Empty (rounds Unbounded same n) s) ∙ never_ends n s)
 
 -- what a function returns
-power_returns : Returns power 0 (pos 2 ∷ []) (Value (pos 1000000014000000049))
+power_returns : Returns Unbounded power 0 (pos 2 ∷ []) (Value (pos 1000000014000000049))
 power_returns = record { enough = 9; outcome = simp equations; is_answer = tt }

@@ -10,6 +10,7 @@ use Rattle.c_ast.specs.declared.expr.Expr.{Expr}
 use Rattle.c_ast.specs.declared.expr.Expr.TheOpen.{Expr-F}
 use Rattle.c_ast.specs.declared.expr.Expr.TheFolds.{map-Expr, fold-roll-Expr, ind-Expr}
 use Rattle.c_ast.specs.declared.expr.Expr.TheViews.{roll-Expr}
+use Rattle.c_ast.specs.declared.integers.Integers.TheVariants.{Unbounded}
 use Rattle.c_ast.specs.declared.program.Resolved.{Resolved}
 use Rattle.c_meaning.specs.Outcomes.{Outcome, Value, on_value, State}
 use Rattle.c_meaning.specs.Expressions.{Calls, unary, binary, expr_level, expr}
@@ -28,7 +29,7 @@ Fits value outcome = (k : ℤ) → value ≡ Some k → outcome ≡ Value k
 
 -- a sign
 signed : (op : UnOp) (u : Option ℤ) (x : Outcome ℤ) → Fits u x →
-    Fits (unary_value op u) (on_value x (λ a. Value (unary op a)))
+    Fits (unary_value op u) (on_value x (unary Unbounded op))
 signed Sign.Plus None x fits k is = full is
 signed Sign.Plus (Some a) x fits k is = rw (fits a refl) cc
 signed Sign.Minus None x fits k is = full is
@@ -37,7 +38,7 @@ signed Sign.Not u x fits k is = full is
 
 -- an operator between operands
 joined : (op : BinOp) (u v : Option ℤ) (x y : Outcome ℤ) → Fits u x → Fits v y →
-    Fits (binary_value op u v) (binary op x y)
+    Fits (binary_value op u v) (binary Unbounded op x y)
 joined Op.Add None v x y left right k is = full is
 joined Op.Add (Some a) None x y left right k is = full is
 joined Op.Add (Some a) (Some b) x y left right k is = rw (left a refl, right b refl) cc
@@ -51,7 +52,7 @@ joined _ u v x y left right k is = full is
 
 module _ (calls : Calls) (s : State) where
   abbrev Valued : Expr → Type 0
-  Valued e = Fits (straight_value (slice_get s) e) (expr calls e s)
+  Valued e = Fits (straight_value (slice_get s) e) (expr Unbounded calls e s)
 
   abbrev Part : Type 0
   Part = (e : Expr) × Valued e
@@ -64,15 +65,15 @@ module _ (calls : Calls) (s : State) where
   level : (y : Expr-F Part) → Fits
       (straight_level (slice_get s) (map-Expr Expr (Option ℤ) (straight_value (slice_get s))
       (map-Expr Part Expr (λ p. p.0) y)))
-      (expr_level calls (map-Expr Expr (State → Outcome ℤ) (expr calls)
+      (expr_level Unbounded calls (map-Expr Expr (State → Outcome ℤ) (expr Unbounded calls)
       (map-Expr Part Expr (λ p. p.0) y)) s)
   level (Expr-F.Lit n) k is = cc
   level (Expr-F.Var v) k is = placed (slice_get s v) k is
   level (Expr-F.Unary op p) k is =
-      signed op (straight_value (slice_get s) p.0) (expr calls p.0 s) p.1 k is
+      signed op (straight_value (slice_get s) p.0) (expr Unbounded calls p.0 s) p.1 k is
   level (Expr-F.Binary op p q) k is =
       joined op (straight_value (slice_get s) p.0) (straight_value (slice_get s) q.0)
-      (expr calls p.0 s) (expr calls q.0 s) p.1 q.1 k is
+      (expr Unbounded calls p.0 s) (expr Unbounded calls q.0 s) p.1 q.1 k is
   level (Expr-F.Choose t p q) k is = full is
   level (Expr-F.Apply f ps) k is = full is
 
@@ -81,13 +82,13 @@ module _ (calls : Calls) (s : State) where
   step x y is =
       let P : Expr-F Expr → Type 0 = λ z. Fits
       (straight_level (slice_get s) (map-Expr Expr (Option ℤ) (straight_value (slice_get s)) z))
-      (expr_level calls (map-Expr Expr (State → Outcome ℤ) (expr calls) z) s) in
+      (expr_level Unbounded calls (map-Expr Expr (State → Outcome ℤ) (expr Unbounded calls) z) s) in
       let opened : P x = subst P is (level y) in
       let V : Option ℤ → Type 0 = λ v. Fits v
-      (expr_level calls (map-Expr Expr (State → Outcome ℤ) (expr calls) x) s) in
+      (expr_level Unbounded calls (map-Expr Expr (State → Outcome ℤ) (expr Unbounded calls) x) s) in
       let M : (State → Outcome ℤ) → Type 0 = λ m.
       Fits (straight_value (slice_get s) (roll-Expr x)) (m s) in
-      subst M (sym (fold-roll-Expr (State → Outcome ℤ) (expr_level calls) x))
+      subst M (sym (fold-roll-Expr (State → Outcome ℤ) (expr_level Unbounded calls) x))
       (subst V (sym (fold-roll-Expr (Option ℤ) (straight_level (slice_get s)) x)) opened)
 
   -- an expression's outcome is its straight value, where it has one
@@ -98,10 +99,10 @@ module _ (calls : Calls) (s : State) where
 -- on
 pub body_straight : (program : Resolved) (f : ℕ) (e : Expr) (arguments : List ℤ) (k : ℤ) →
     ReturnsExpression program f e → HasStraightValue arguments e k
-    → (n : ℕ) → call_outcome program (suc n) f arguments ≡ Value k
+    → (n : ℕ) → call_outcome Unbounded program (suc n) f arguments ≡ Value k
 body_straight program f e arguments k (function, there, body) value n =
-    let calls = calls_with (rounds program n) in
-    let value_is : expr calls e arguments ≡ Value k = expr_straight calls arguments e k value in
-    ap (λ o. body_outcome o (rounds program n) arguments) there
-    ∙ (ap (λ ts. on_value (in_order (map stmt ts) (rounds program n) arguments) returned) body
-    ∙ rw (stmt-Return e (rounds program n) arguments, value_is) refl)
+    let calls = calls_with (rounds Unbounded program n) in
+    let value_is : expr Unbounded calls e arguments ≡ Value k = expr_straight calls arguments e k value in
+    ap (λ o. body_outcome Unbounded o (rounds Unbounded program n) arguments) there
+    ∙ (ap (λ ts. on_value (in_order (map (stmt Unbounded) ts) (rounds Unbounded program n) arguments) returned) body
+    ∙ rw (stmt-Return Unbounded e (rounds Unbounded program n) arguments, value_is) refl)

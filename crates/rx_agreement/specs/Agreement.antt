@@ -1,5 +1,5 @@
--- What it means that rules and the meaning of C agree: on a function, on two of them, and on a
--- precondition.
+-- What it means that rules and the meaning of C by the mathematical integers agree: on a function,
+-- on two of them, and on a precondition.
 use Rattle.std.specs.Prelude.{◌≡◌, ◌≢◌, ◌↔◌, ℕ, Some, List, length, slice_get, ℤ, pos}
 use Rattle.rx_rewriting.specs.Terms as stack
 use Rattle.rx_rewriting.specs.Terms.{Ground, IsResult}
@@ -11,15 +11,21 @@ use Rattle.rx_term.specs.Assigned.{assigned}
 use Rattle.rx_code.specs.Preconditions.{pre_rows}
 use Rattle.c_ast.specs.declared.expr.Expr.{Expr}
 use Rattle.c_ast.specs.Scoped.{parameter_counts}
+use Rattle.c_ast.specs.declared.integers.Integers.TheVariants.{Unbounded}
 use Rattle.c_ast.specs.declared.program.Resolved.{Resolved}
-use Rattle.c_meaning.specs.Outcomes.{Outcome, Value, DivisionError, More, IsAnswer}
+use Rattle.c_meaning.specs.Outcomes.{Failure, Division, Range, Outcome, Value, Error, More, IsAnswer}
 use Rattle.c_meaning.specs.Programs.{Returns, expr_outcome}
 
--- the result that an outcome is: the returned integer, or the first failure for the division error.
--- 'More' is no answer; it has no result
+-- the code of an error as a failure: 1 for the division error, 2 for the range error
+abbrev pub code_of : Failure → ℕ
+code_of Division = 1
+code_of Range = 2
+
+-- the result that an outcome is: the returned integer, or the failure of an error. 'More' is no
+-- answer; it has no result
 abbrev pub result_of : Outcome ℤ → Ground
 result_of (Value k) = stack.Return k
-result_of DivisionError = stack.Fail 1
+result_of (Error e) = stack.Fail (code_of e)
 result_of More = stack.Fail 0
 
 -- on as many arguments as it has parameters the function at the place returns an outcome exactly
@@ -29,14 +35,14 @@ AgreeOn program rules f symbol =
     (arguments : List ℤ) → slice_get (parameter_counts program.functions) f ≡
     Some (length arguments)
     → (r : Outcome ℤ) → IsAnswer r
-    → Returns program f arguments r ↔ Reaches (Instance rules) (stack.Call symbol arguments)
+    → Returns Unbounded program f arguments r ↔ Reaches (Instance rules) (stack.Call symbol arguments)
     (result_of r)
 
 -- both functions return on the arguments, with one outcome
 pub record ReturnAlike (program : Resolved) (f g : ℕ) (arguments : List ℤ) : Type 0 where
   pub outcome : Outcome ℤ
-  pub first : Returns program f arguments outcome
-  pub second : Returns program g arguments outcome
+  pub first : Returns Unbounded program f arguments outcome
+  pub second : Returns Unbounded program g arguments outcome
 
 -- both terms reach results by the rules, and these are convertible by the rules
 pub record ReachConvertible (rules : List Rule) (s t : Ground) : Type 0 where
@@ -52,5 +58,5 @@ pub record ReachConvertible (rules : List Rule) (s t : Ground) : Type 0 where
 -- exactly where that isn't 0
 pub record MeansItsRows (program : Resolved) (pre : Expr) (arguments : List ℤ) : Type 0 where
   pub value : ℤ
-  pub outcome : (n : ℕ) → expr_outcome program n pre arguments ≡ Value value
+  pub outcome : (n : ℕ) → expr_outcome Unbounded program n pre arguments ≡ Value value
   pub rows : AllHold (assigned arguments) (pre_rows pre).form ↔ (value ≢ pos 0)

@@ -72,14 +72,14 @@ fn is_start(infos: &[SymInfo], symbol: u32) -> bool
 
 /// Whether the symbol is the entry of a function, the head of a loop or the left root of a
 /// hypothesis.
-fn is_anchor(infos: &[SymInfo], hypotheses: &[Rule], symbol: u32) -> bool
+pub fn is_anchor(infos: &[SymInfo], hypotheses: &[Rule], symbol: u32) -> bool
     ensures { result ≡ is_anchor infos.now hypotheses.now symbol }
 {
     is_start(infos, symbol) || is_some_root(symbol, hypotheses)
 }
 
 /// The symbols of the component with that name, in order.
-fn symbols_in(alloc: Global, names: &[u32], name: u32) -> Result<Vec<u32>, NoMemory>
+pub fn symbols_in(alloc: Global, names: &[u32], name: u32) -> Result<Vec<u32>, NoMemory>
     ensures { IfOk result (λ v. v.items ≡ members names.now name) }
 {
     let mut symbols = Vec::new(alloc);

@@ -3,6 +3,7 @@
 -- mathematical integers, where nothing overflows.
 use Rattle.std.specs.Prelude.{◌≡◌, ◌≢◌, ⊤, ℕ, ℤ, pos, List, Option, Some, None, length}
 use Rattle.c_ast.specs.declared.expr.Expr.{Expr}
+use Rattle.c_ast.specs.declared.integers.Integers.TheVariants.{Unbounded}
 use Rattle.c_ast.specs.declared.program.Resolved.{Resolved}
 use Rattle.c_meaning.specs.Outcomes.{Value}
 use Rattle.c_meaning.specs.Programs.{expr_outcome}
@@ -17,7 +18,7 @@ use Rattle.rx_command.specs.Commands.{Functions}
 abbrev pub Meets : Resolved → Option Expr → List ℤ → Type 0
 Meets program None arguments = ⊤
 Meets program (Some pre) arguments =
-    (value : ℤ) × ((rounds : ℕ) → expr_outcome program rounds pre arguments ≡ Value value)
+    (value : ℤ) × ((rounds : ℕ) → expr_outcome Unbounded program rounds pre arguments ≡ Value value)
     × (value ≢ pos 0)
 
 -- both functions return alike on all integers, as many as they have parameters, that meet the

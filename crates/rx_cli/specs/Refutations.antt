@@ -1,5 +1,6 @@
 -- What is said of a text where counterexamples are looked for, and what a counterexample means.
 use Rattle.std.specs.Prelude.{◌≡◌, ◌≢◌, ◌⊎◌, ℕ, ℤ, List, nat_lt, length, MatchBool}
+use Rattle.c_ast.specs.declared.integers.Integers.TheVariants.{Unbounded}
 use Rattle.c_front.specs.declared.pairs.Compared.{Compared}
 use Rattle.c_front.specs.declared.stages.Next.TheVariants.{Ends, Goes}
 use Rattle.c_front.specs.Conditions.{whole_front}
@@ -58,8 +59,8 @@ IsRefuted f extent source answer =
 -- ---- what a counterexample means
 
 -- the text spells a well-formed program, the names are those of two of its functions, of equally
--- many parameters, and on integers that meet the precondition both return, by the meaning of C,
--- other outcomes: other integers, or one of them the division error
+-- many parameters, and on integers that meet the precondition both return, by the meaning of C over
+-- the mathematical integers, other outcomes: other integers, or one of them the division error
 pub record Refutes (source : List ℕ) (f : Functions) : Type 0 where
   pub compared : Compared
   pub front : whole_front source f.first f.second f.precondition (Goes compared)
@@ -68,6 +69,6 @@ pub record Refutes (source : List ℕ) (f : Functions) : Type 0 where
   pub meets : Meets compared.two.program compared.precondition arguments
   pub first : Outcome ℤ
   pub second : Outcome ℤ
-  pub first_returns : Returns compared.two.program compared.two.first arguments first
-  pub second_returns : Returns compared.two.program compared.two.second arguments second
+  pub first_returns : Returns Unbounded compared.two.program compared.two.first arguments first
+  pub second_returns : Returns Unbounded compared.two.program compared.two.second arguments second
   pub different : first ≢ second

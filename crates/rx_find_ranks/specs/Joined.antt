@@ -15,17 +15,18 @@ use Rattle.rx_rank.specs.Ranking.{unless_empty}
 use Rattle.rx_rank.specs.Tries.{after}
 use Rattle.rx_rank.specs.declared.attempt.Attempt.{Attempt}
 use Rattle.rx_rank.specs.declared.fitting.Fit.{Fit}
+use Rattle.rx_rank.specs.declared.kind.RankingKind.{RankingKind}
 use Rattle.rx_find_ranks.specs.Tables.{pairs_open}
 use Rattle.rx_find_ranks.specs.Columns.{overlaid}
 use Rattle.rx_find_ranks.specs.declared.open_pair.OpenPair.{OpenPair}
 
 -- what comes of groups, as those of the components from that name on
-abbrev pub tries_from : RuleParts → List Rule → List ℕ → ℕ → List (List OpenPair) →
+abbrev pub tries_from : RankingKind → RuleParts → List Rule → List ℕ → ℕ → List (List OpenPair) →
     List (Tried (List Pair))
-tries_from parts hypotheses names c [] = []
-tries_from parts hypotheses names c (group ∷ groups) =
-    unless_empty parts hypotheses names c (pairs_open group) ∷
-    tries_from parts hypotheses names (c + 1) groups
+tries_from kind parts hypotheses names c [] = []
+tries_from kind parts hypotheses names c (group ∷ groups) =
+    unless_empty kind parts hypotheses names c (pairs_open group) ∷
+    tries_from kind parts hypotheses names (c + 1) groups
 
 -- ---- fits of several components
 
@@ -62,10 +63,10 @@ pub record IsFitBelow (infos : List SymInfo) (names : List ℕ) (c : ℕ) (pairs
       IsOwnBelow infos names c f p
 
 -- what comes of the component with that name, after those whose names are below it
-pub record IsOneMore (parts : RuleParts) (hypotheses : List Rule) (names : List ℕ) (c : ℕ)
-    (pairs : List Pair) (before : Fit) (t : Attempt Fit) : Type 0 where
+pub record IsOneMore (kind : RankingKind) (parts : RuleParts) (hypotheses : List Rule)
+    (names : List ℕ) (c : ℕ) (pairs : List Pair) (before : Fit) (t : Attempt Fit) : Type 0 where
   pub tried : (done : List Pair) → IsFitBelow parts.symbols names c done before
       → tried_as (λ fit. still_open (done ++ pairs) fit.falls.items) t ≡
-      after (still_open done before.falls.items) (unless_empty parts hypotheses names c pairs)
+      after (still_open done before.falls.items) (unless_empty kind parts hypotheses names c pairs)
   pub fits : (done : List Pair) → IsFitBelow parts.symbols names c done before →
       IfSome t.made (IsFitBelow parts.symbols names (c + 1) (done ++ pairs))

@@ -16,7 +16,7 @@ use rx_cert::Cert;
 use rx_fm::FmEnd;
 use rx_plain::NoMemory;
 use rx_poly::Poly;
-use rx_rank::{Attempt, Fit, PairMemo, fit_component};
+use rx_rank::{Attempt, Fit, PairMemo, RankingKind, fit_component};
 use rx_row::Constraint;
 use rx_term::{Rule, RuleParts};
 use std::alloc::Global;
@@ -59,6 +59,7 @@ fn no_fit(alloc: Global, parts: &RuleParts) -> Result<Fit, NoMemory>
 /// The first fit choice of the component with that name, whose entries these are.
 fn fit_entries<S: FnMut(&Constraint) -> Result<Option<Cert>, FmEnd>>(
     alloc: Global,
+    kind: RankingKind,
     parts: &RuleParts,
     hypotheses: &[Rule],
     names: &[u32],
@@ -71,13 +72,13 @@ fn fit_entries<S: FnMut(&Constraint) -> Result<Option<Cert>, FmEnd>>(
     ensures solver { IsSolver S.FnMut solve.new }
     ensures tried { IfOk result (λ t. tried_as
         (λ fit. still_open (pairs_open entries.now) fit.falls.items) t ≡
-        component parts.now hypotheses.now names.now name (pairs_open entries.now)) }
+        component kind parts.now hypotheses.now names.now name (pairs_open entries.now)) }
     ensures fit { IfOk result (λ t. IfSome t.made
-        (IsComponentFit parts.now hypotheses.now names.now name (pairs_open entries.now))) }
+        (IsComponentFit kind parts.now hypotheses.now names.now name (pairs_open entries.now))) }
 {
     let lent = pairs_of(alloc, entries)?;
     let pairs = lent.as_slice();
-    fit_component(alloc, parts, hypotheses, names, name, pairs, memo, solve)
+    fit_component(alloc, kind, parts, hypotheses, names, name, pairs, memo, solve)
 }
 
 /// The fit before with that of one component more, if it has one.
@@ -98,6 +99,7 @@ fn join_next(before: Fit, tried: Attempt<Fit>) -> Result<Attempt<Fit>, NoMemory>
 /// are; without an entry nothing is tried.
 fn fit_one_more<S: FnMut(&Constraint) -> Result<Option<Cert>, FmEnd>>(
     alloc: Global,
+    kind: RankingKind,
     parts: &RuleParts,
     hypotheses: &[Rule],
     names: &[u32],
@@ -109,7 +111,7 @@ fn fit_one_more<S: FnMut(&Constraint) -> Result<Option<Cert>, FmEnd>>(
 ) -> Result<Attempt<Fit>, NoMemory>
     requires solver { IsSolver S.FnMut solve.old }
     ensures solver { IsSolver S.FnMut solve.new }
-    ensures more { IfOk result (IsOneMore parts.now hypotheses.now names.now name
+    ensures more { IfOk result (IsOneMore kind parts.now hypotheses.now names.now name
         (pairs_open entries.now) before) }
 {
     if entries.len() == 0 {
@@ -118,7 +120,7 @@ fn fit_one_more<S: FnMut(&Constraint) -> Result<Option<Cert>, FmEnd>>(
             noted: false,
         });
     }
-    let tried = fit_entries(alloc, parts, hypotheses, names, name, entries, memo, solve)?;
+    let tried = fit_entries(alloc, kind, parts, hypotheses, names, name, entries, memo, solve)?;
     join_next(before, tried)
 }
 
@@ -126,6 +128,7 @@ fn fit_one_more<S: FnMut(&Constraint) -> Result<Option<Cert>, FmEnd>>(
 /// the first component that has none.
 pub(crate) fn fit_groups<S: FnMut(&Constraint) -> Result<Option<Cert>, FmEnd>>(
     alloc: Global,
+    kind: RankingKind,
     parts: &RuleParts,
     hypotheses: &[Rule],
     names: &[u32],
@@ -138,7 +141,7 @@ pub(crate) fn fit_groups<S: FnMut(&Constraint) -> Result<Option<Cert>, FmEnd>>(
     ensures solver { IsSolver S.FnMut solve.new }
     ensures tried { IfOk result (λ t. tried_as
         (λ fit. still_open (pairs_open (ungrouped (groups_in groups.now))) fit.falls.items) t ≡
-        all_made (tries_from parts.now hypotheses.now names.now 0 (groups_in groups.now))) }
+        all_made (tries_from kind parts.now hypotheses.now names.now 0 (groups_in groups.now))) }
     ensures fit { IfOk result (λ t. IfSome t.made (IsFitBelow parts.now.symbols names.now
         (length groups.now) (pairs_open (ungrouped (groups_in groups.now))))) }
 {
@@ -148,7 +151,7 @@ pub(crate) fn fit_groups<S: FnMut(&Constraint) -> Result<Option<Cert>, FmEnd>>(
         let name = name as u32;
         let group = group.as_slice();
         let tried = fit_one_more(
-            alloc, parts, hypotheses, names, name, group, fit, memo, solve,
+            alloc, kind, parts, hypotheses, names, name, group, fit, memo, solve,
         )?;
         noted |= tried.noted;
         match tried.made {

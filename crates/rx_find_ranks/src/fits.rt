@@ -18,7 +18,7 @@ use rx_cert::Cert;
 use rx_fm::FmEnd;
 use rx_plain::{Items, NoMemory};
 use rx_poly::Poly;
-use rx_rank::{Attempt, Fit, PairMemo, find_representatives};
+use rx_rank::{Attempt, Fit, PairMemo, RankingKind, find_representatives};
 use rx_row::Constraint;
 use rx_term::{Rule, RuleParts};
 use std::alloc::Global;
@@ -83,6 +83,7 @@ fn with_entries(
 /// that has none.
 pub(crate) fn fit_all<S: FnMut(&Constraint) -> Result<Option<Cert>, FmEnd>>(
     alloc: Global,
+    kind: RankingKind,
     parts: &RuleParts,
     hypotheses: &[Rule],
     entries: Vec<OpenPair>,
@@ -95,13 +96,13 @@ pub(crate) fn fit_all<S: FnMut(&Constraint) -> Result<Option<Cert>, FmEnd>>(
     ensures solver { IsSolver S.FnMut solve.new }
     ensures tried { IfOk result (λ t. tried_as
         (λ fits. still_open (pairs_open fits.entries.items) fits.falls.items) t ≡
-        polynomials parts.now hypotheses.now (pairs_open entries.items)) }
+        polynomials kind parts.now hypotheses.now (pairs_open entries.items)) }
     ensures fits { IfOk result (λ t. IfSome t.made (AreFits parts.now.symbols entries.items)) }
 {
     let components = open_representatives(alloc, parts.symbols.len(), entries.as_slice())?;
     let names = components.as_slice();
     let groups = group_entries(alloc, names, entries)?;
     let lent = groups.as_slice();
-    let tried = fit_groups(alloc, parts, hypotheses, names, lent, memo, solve)?;
+    let tried = fit_groups(alloc, kind, parts, hypotheses, names, lent, memo, solve)?;
     with_entries(alloc, groups, tried)
 }

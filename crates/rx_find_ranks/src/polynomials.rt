@@ -18,7 +18,7 @@ use rx_cert::Cert;
 use rx_fm::FmEnd;
 use rx_pairs::PairCert;
 use rx_plain::NoMemory;
-use rx_rank::{Attempt, PairMemo};
+use rx_rank::{Attempt, PairMemo, RankingKind};
 use rx_row::Constraint;
 use rx_term::{Rule, RuleParts};
 use std::alloc::Global;
@@ -61,6 +61,7 @@ fn add_column(
 /// and the pairs that fall are closed.
 pub(crate) fn add_polynomials<S: FnMut(&Constraint) -> Result<Option<Cert>, FmEnd>>(
     alloc: Global,
+    kind: RankingKind,
     parts: &RuleParts,
     hypotheses: &[Rule],
     progress: Progress,
@@ -74,7 +75,7 @@ pub(crate) fn add_polynomials<S: FnMut(&Constraint) -> Result<Option<Cert>, FmEn
     requires width { length progress.columns.items ≤ 14 }
     ensures solver { IsSolver S.FnMut solve.new }
     ensures tried { IfOk result (λ t. tried_as (λ after. pairs_open after.entries.items) t ≡
-        polynomials parts.now hypotheses.now (pairs_open progress.entries.items)) }
+        polynomials kind parts.now hypotheses.now (pairs_open progress.entries.items)) }
     ensures grown { IfOk result (λ t. IfSome t.made (IsGrown parts.now.symbols progress)) }
 {
     let Progress {
@@ -82,7 +83,7 @@ pub(crate) fn add_polynomials<S: FnMut(&Constraint) -> Result<Option<Cert>, FmEn
         entries,
         closed,
     } = progress;
-    let tried = fit_all(alloc, parts, hypotheses, entries, memo, solve)?;
+    let tried = fit_all(alloc, kind, parts, hypotheses, entries, memo, solve)?;
     let noted = tried.noted;
     let Some(fits) = tried.made else {
         return Ok(Attempt { made: None, noted });

@@ -13,7 +13,7 @@ use rx_cert::Cert;
 use rx_fm::FmEnd;
 use rx_pairs::{PairCert, RankTable, listed_pairs};
 use rx_plain::{Items, NoMemory};
-use rx_rank::{Attempt, PairMemo};
+use rx_rank::{Attempt, PairMemo, RankingKind};
 use rx_row::Constraint;
 use rx_term::{Rule, RuleSet};
 use std::alloc::Global;
@@ -31,6 +31,7 @@ pub struct Ranking {
 /// where these pass the limits, which is noted.
 fn rank_all<S: FnMut(&Constraint) -> Result<Option<Cert>, FmEnd>>(
     alloc: Global,
+    kind: RankingKind,
     rules: &RuleSet,
     hypotheses: &[Rule],
     memo: &mut PairMemo,
@@ -40,7 +41,7 @@ fn rank_all<S: FnMut(&Constraint) -> Result<Option<Cert>, FmEnd>>(
     requires roots { All HasRoot hypotheses.now }
     requires fits { All (SidesFit rules.now) hypotheses.now }
     ensures solver { IsSolver S.FnMut solve.new }
-    ensures tried { IfOk result (λ t. tried_only t ≡ ranking rules.now hypotheses.now) }
+    ensures tried { IfOk result (λ t. tried_only t ≡ ranking kind rules.now hypotheses.now) }
     ensures lowers { IfOk result (λ t. IfSome t.made (LowersAll rules.now hypotheses.now)) }
     ensures columns { IfOk result (λ t. IfSome t.made (λ found. HasColumns found.table)) }
 {
@@ -58,7 +59,7 @@ fn rank_all<S: FnMut(&Constraint) -> Result<Option<Cert>, FmEnd>>(
     }
     let pairs = listed.pairs.into_vec();
     let start = begin(alloc, pairs)?;
-    let tried = rank_from(alloc, parts, hypotheses, 7, start, memo, solve)?;
+    let tried = rank_from(alloc, kind, parts, hypotheses, 7, start, memo, solve)?;
     let noted = tried.noted;
     match tried.made {
         Some(done) => {
@@ -84,6 +85,7 @@ fn rank_all<S: FnMut(&Constraint) -> Result<Option<Cert>, FmEnd>>(
 /// hypotheses and solvers.
 pub fn find_ranks_with<S: FnMut(&Constraint) -> Result<Option<Cert>, FmEnd>>(
     alloc: Global,
+    kind: RankingKind,
     rules: &RuleSet,
     hypotheses: &[Rule],
     memo: &mut PairMemo,
@@ -93,11 +95,11 @@ pub fn find_ranks_with<S: FnMut(&Constraint) -> Result<Option<Cert>, FmEnd>>(
     requires roots { All HasRoot hypotheses.now }
     requires fits { All (SidesFit rules.now) hypotheses.now }
     ensures solver { IsSolver S.FnMut solve.new }
-    ensures answer { RanksAnswer (ranked rules.now hypotheses.now) result }
+    ensures answer { RanksAnswer (ranked kind rules.now hypotheses.now) result }
     ensures lowers { IfOk result (λ a. IfSome a (LowersAll rules.now hypotheses.now)) }
     ensures columns { IfOk result (λ a. IfSome a (λ found. HasColumns found.table)) }
 {
-    match rank_all(alloc, rules, hypotheses, memo, solve) {
+    match rank_all(alloc, kind, rules, hypotheses, memo, solve) {
         Ok(tried) => {
             let noted = tried.noted;
             match tried.made {
@@ -113,6 +115,7 @@ pub fn find_ranks_with<S: FnMut(&Constraint) -> Result<Option<Cert>, FmEnd>>(
 /// A rank table as `find_ranks_with` finds it, with a memo of its own.
 pub fn find_ranks<S: FnMut(&Constraint) -> Result<Option<Cert>, FmEnd>>(
     alloc: Global,
+    kind: RankingKind,
     rules: &RuleSet,
     hypotheses: &[Rule],
     solve: &mut S,
@@ -121,10 +124,10 @@ pub fn find_ranks<S: FnMut(&Constraint) -> Result<Option<Cert>, FmEnd>>(
     requires roots { All HasRoot hypotheses.now }
     requires fits { All (SidesFit rules.now) hypotheses.now }
     ensures solver { IsSolver S.FnMut solve.new }
-    ensures answer { RanksAnswer (ranked rules.now hypotheses.now) result }
+    ensures answer { RanksAnswer (ranked kind rules.now hypotheses.now) result }
     ensures lowers { IfOk result (λ a. IfSome a (LowersAll rules.now hypotheses.now)) }
     ensures columns { IfOk result (λ a. IfSome a (λ found. HasColumns found.table)) }
 {
     let mut memo = PairMemo::new(alloc);
-    find_ranks_with(alloc, rules, hypotheses, &mut memo, solve)
+    find_ranks_with(alloc, kind, rules, hypotheses, &mut memo, solve)
 }

@@ -16,7 +16,7 @@ use crate::progress::{Progress, add_heights};
 use rx_cert::Cert;
 use rx_fm::FmEnd;
 use rx_plain::NoMemory;
-use rx_rank::{Attempt, PairMemo, noted_before};
+use rx_rank::{Attempt, PairMemo, RankingKind, noted_before};
 use rx_row::Constraint;
 use rx_term::{Rule, RuleParts};
 use std::alloc::Global;
@@ -58,6 +58,7 @@ fn found(progress: Progress) -> Attempt<Progress>
 /// and so on; where no round is left and pairs are open, a last column of heights.
 pub(crate) fn rank_from<S: FnMut(&Constraint) -> Result<Option<Cert>, FmEnd>>(
     alloc: Global,
+    kind: RankingKind,
     parts: &RuleParts,
     hypotheses: &[Rule],
     left: u32,
@@ -72,7 +73,7 @@ pub(crate) fn rank_from<S: FnMut(&Constraint) -> Result<Option<Cert>, FmEnd>>(
     requires width { length progress.columns.items + 2 * left ≤ 14 }
     ensures solver { IsSolver S.FnMut solve.new }
     ensures tried { IfOk result (λ t. tried_only t ≡
-        ranking_from parts.now hypotheses.now left (pairs_open progress.entries.items)) }
+        ranking_from kind parts.now hypotheses.now left (pairs_open progress.entries.items)) }
     ensures made { IfOk result (λ t. IfSome t.made (IsRanked parts.now.symbols progress)) }
     ensures more { IfOk result (λ t. IfSome t.made (IsLonger left progress)) }
 {
@@ -86,11 +87,11 @@ pub(crate) fn rank_from<S: FnMut(&Constraint) -> Result<Option<Cert>, FmEnd>>(
             noted: false,
         });
     }
-    let tried = add_polynomials(alloc, parts, hypotheses, grown, memo, solve)?;
+    let tried = add_polynomials(alloc, kind, parts, hypotheses, grown, memo, solve)?;
     let noted = tried.noted;
     let Some(next) = tried.made else {
         return Ok(Attempt { made: None, noted });
     };
-    let rest = rank_from(alloc, parts, hypotheses, left - 1, next, memo, solve)?;
+    let rest = rank_from(alloc, kind, parts, hypotheses, left - 1, next, memo, solve)?;
     Ok(noted_before(noted, rest))
 }

@@ -17,7 +17,7 @@ use rx_cert::Cert;
 use rx_fm::FmEnd;
 use rx_pairs::{Listing, Pair};
 use rx_plain::NoMemory;
-use rx_rank::{Attempt, noted_before};
+use rx_rank::{Attempt, RankingKind, noted_before};
 use rx_row::Constraint;
 use rx_term::{Rule, RuleParts, RuleSet};
 use std::alloc::Global;
@@ -35,6 +35,7 @@ fn push_borrowed<'a>(refs: &mut Vec<&'a Pair>, pairs: &'a [Pair]) -> Result<(), 
 /// Whether there are ranks for the open pairs, with n rounds left.
 fn decide_from<S: FnMut(&Constraint) -> Result<Option<Cert>, FmEnd>>(
     alloc: Global,
+    kind: RankingKind,
     parts: &RuleParts,
     hypotheses: &[Rule],
     left: u32,
@@ -47,7 +48,7 @@ fn decide_from<S: FnMut(&Constraint) -> Result<Option<Cert>, FmEnd>>(
     requires few { length parts.now.symbols ≤ 2 ^ 32 }
     ensures solver { IsSolver S.FnMut solve.new }
     ensures tried { IfOk result (λ t. tried_only t ≡
-        ranking_from parts.now hypotheses.now left (pairs_at pairs.now)) }
+        ranking_from kind parts.now hypotheses.now left (pairs_at pairs.now)) }
 {
     let opened = open_pairs(alloc, parts, pairs, &mut memo.components)?;
     if opened.pairs.len() == 0 {
@@ -62,12 +63,12 @@ fn decide_from<S: FnMut(&Constraint) -> Result<Option<Cert>, FmEnd>>(
             noted: false,
         });
     }
-    let tried = left_after(alloc, parts, hypotheses, &opened, &mut memo.pairs, solve)?;
+    let tried = left_after(alloc, kind, parts, hypotheses, &opened, &mut memo.pairs, solve)?;
     let noted = tried.noted;
     match tried.made {
         Some(next) => {
             let next = next.as_slice();
-            let rest = decide_from(alloc, parts, hypotheses, left - 1, next, memo, solve)?;
+            let rest = decide_from(alloc, kind, parts, hypotheses, left - 1, next, memo, solve)?;
             Ok(noted_before(noted, rest))
         }
         None => Ok(Attempt { made: None, noted }),
@@ -87,6 +88,7 @@ fn not_listed() -> Attempt<()>
 /// What comes of the ranking of all these pairs.
 fn decide_listed<S: FnMut(&Constraint) -> Result<Option<Cert>, FmEnd>>(
     alloc: Global,
+    kind: RankingKind,
     parts: &RuleParts,
     hypotheses: &[Rule],
     first: &[Pair],
@@ -99,18 +101,19 @@ fn decide_listed<S: FnMut(&Constraint) -> Result<Option<Cert>, FmEnd>>(
     requires few { length parts.now.symbols ≤ 2 ^ 32 }
     ensures solver { IsSolver S.FnMut solve.new }
     ensures tried { IfOk result (λ t. tried_only t ≡
-        ranking_from parts.now hypotheses.now 7 (first.now ++ others.now)) }
+        ranking_from kind parts.now hypotheses.now 7 (first.now ++ others.now)) }
 {
     let mut refs = Vec::with_capacity(alloc, first.len())?;
     push_borrowed(&mut refs, first)?;
     push_borrowed(&mut refs, others)?;
-    decide_from(alloc, parts, hypotheses, 7, refs.as_slice(), memo, solve)
+    decide_from(alloc, kind, parts, hypotheses, 7, refs.as_slice(), memo, solve)
 }
 
 /// What comes of the ranking of the pairs of the rules, which are all listed, and of those of the
 /// hypotheses.
 fn decide_after<S: FnMut(&Constraint) -> Result<Option<Cert>, FmEnd>>(
     alloc: Global,
+    kind: RankingKind,
     rules: &RuleSet,
     first: &[Pair],
     hypotheses: &[Rule],
@@ -122,7 +125,7 @@ fn decide_after<S: FnMut(&Constraint) -> Result<Option<Cert>, FmEnd>>(
     requires roots { All HasRoot hypotheses.now }
     requires fits { All (SidesFit rules.now) hypotheses.now }
     ensures solver { IsSolver S.FnMut solve.new }
-    ensures tried { IfOk result (λ t. tried_only t ≡ ranking rules.now hypotheses.now) }
+    ensures tried { IfOk result (λ t. tried_only t ≡ ranking kind rules.now hypotheses.now) }
 {
     let parts = rules.parts();
     if parts.symbols.len() > u32::MAX as usize {
@@ -131,7 +134,7 @@ fn decide_after<S: FnMut(&Constraint) -> Result<Option<Cert>, FmEnd>>(
     let more = hypothesis_pairs(alloc, rules, hypotheses)?;
     if more.whole {
         let others = more.pairs.as_slice();
-        decide_listed(alloc, parts, hypotheses, first, others, memo, solve)
+        decide_listed(alloc, kind, parts, hypotheses, first, others, memo, solve)
     } else {
         Ok(not_listed())
     }
@@ -141,6 +144,7 @@ fn decide_after<S: FnMut(&Constraint) -> Result<Option<Cert>, FmEnd>>(
 /// rules aren't all listed, none of the hypotheses is made.
 fn decide_all<S: FnMut(&Constraint) -> Result<Option<Cert>, FmEnd>>(
     alloc: Global,
+    kind: RankingKind,
     rules: &RuleSet,
     listed: &Listing,
     hypotheses: &[Rule],
@@ -152,11 +156,11 @@ fn decide_all<S: FnMut(&Constraint) -> Result<Option<Cert>, FmEnd>>(
     requires roots { All HasRoot hypotheses.now }
     requires fits { All (SidesFit rules.now) hypotheses.now }
     ensures solver { IsSolver S.FnMut solve.new }
-    ensures tried { IfOk result (λ t. tried_only t ≡ ranking rules.now hypotheses.now) }
+    ensures tried { IfOk result (λ t. tried_only t ≡ ranking kind rules.now hypotheses.now) }
 {
     if listed.whole {
         let first = listed.pairs.as_slice();
-        decide_after(alloc, rules, first, hypotheses, memo, solve)
+        decide_after(alloc, kind, rules, first, hypotheses, memo, solve)
     } else {
         Ok(not_listed())
     }
@@ -168,6 +172,7 @@ fn decide_all<S: FnMut(&Constraint) -> Result<Option<Cert>, FmEnd>>(
 /// components of graphs are kept in the memo.
 pub fn has_ranks_with<S: FnMut(&Constraint) -> Result<Option<Cert>, FmEnd>>(
     alloc: Global,
+    kind: RankingKind,
     rules: &RuleSet,
     listed: &Listing,
     hypotheses: &[Rule],
@@ -179,9 +184,9 @@ pub fn has_ranks_with<S: FnMut(&Constraint) -> Result<Option<Cert>, FmEnd>>(
     requires roots { All HasRoot hypotheses.now }
     requires fits { All (SidesFit rules.now) hypotheses.now }
     ensures solver { IsSolver S.FnMut solve.new }
-    ensures answer { HasRanksAnswer (ranked rules.now hypotheses.now) result }
+    ensures answer { HasRanksAnswer (ranked kind rules.now hypotheses.now) result }
 {
-    match decide_all(alloc, rules, listed, hypotheses, memo, solve) {
+    match decide_all(alloc, kind, rules, listed, hypotheses, memo, solve) {
         Ok(tried) => {
             let noted = tried.noted;
             match tried.made {

@@ -16,7 +16,7 @@ use rx_cert::Cert;
 use rx_fm::FmEnd;
 use rx_pairs::Pair;
 use rx_plain::{Items, NoMemory};
-use rx_rank::{Attempt, Fit, PairMemo, fit_component, is_inside};
+use rx_rank::{Attempt, Fit, PairMemo, RankingKind, fit_component, is_inside};
 use rx_row::Constraint;
 use rx_term::{Rule, RuleParts};
 use std::alloc::Global;
@@ -142,6 +142,7 @@ fn after_fit<'a>(
 /// The pairs of the component with that name that stay open after its first fit choice.
 fn left_in<'a, S: FnMut(&Constraint) -> Result<Option<Cert>, FmEnd>>(
     alloc: Global,
+    kind: RankingKind,
     parts: &RuleParts,
     hypotheses: &[Rule],
     opened: &OpenPairs<'a>,
@@ -152,7 +153,7 @@ fn left_in<'a, S: FnMut(&Constraint) -> Result<Option<Cert>, FmEnd>>(
     requires solver { IsSolver S.FnMut solve.old }
     ensures solver { IsSolver S.FnMut solve.new }
     ensures tried { IfOk result (λ t. tried_as (λ left. pairs_at left.items) t ≡
-        tried_in parts.now hypotheses.now opened.now.names.items (pairs_at opened.now.pairs.items)
+        tried_in kind parts.now hypotheses.now opened.now.names.items (pairs_at opened.now.pairs.items)
         name) }
     ensures over { IfOk result (λ t. IfSome t.made (λ left.
         (n : ℕ) → IsOver n (edges_of (pairs_at opened.now.pairs.items)) →
@@ -167,13 +168,14 @@ fn left_in<'a, S: FnMut(&Constraint) -> Result<Option<Cert>, FmEnd>>(
         });
     }
     let pairs = mine.as_slice();
-    let tried = fit_component(alloc, parts, hypotheses, names, name, pairs, memo, solve)?;
+    let tried = fit_component(alloc, kind, parts, hypotheses, names, name, pairs, memo, solve)?;
     after_fit(alloc, pairs, tried)
 }
 
 /// The pairs that stay open after a column of polynomials.
 pub(crate) fn left_after<'a, S: FnMut(&Constraint) -> Result<Option<Cert>, FmEnd>>(
     alloc: Global,
+    kind: RankingKind,
     parts: &RuleParts,
     hypotheses: &[Rule],
     opened: &OpenPairs<'a>,
@@ -187,7 +189,7 @@ pub(crate) fn left_after<'a, S: FnMut(&Constraint) -> Result<Option<Cert>, FmEnd
     requires few { length parts.now.symbols ≤ 2 ^ 32 }
     ensures solver { IsSolver S.FnMut solve.new }
     ensures tried { IfOk result (λ t. tried_as (λ left. pairs_at left.items) t ≡
-        polynomials parts.now hypotheses.now (pairs_at opened.now.pairs.items)) }
+        polynomials kind parts.now hypotheses.now (pairs_at opened.now.pairs.items)) }
     ensures over { IfOk result (λ t. IfSome t.made (λ left.
         IsOver (length parts.now.symbols) (edges_of (pairs_at left.items)))) }
 {
@@ -195,7 +197,7 @@ pub(crate) fn left_after<'a, S: FnMut(&Constraint) -> Result<Option<Cert>, FmEnd
     let mut left = Vec::new(alloc);
     let mut noted = false;
     for name in 0..symbols {
-        let tried = left_in(alloc, parts, hypotheses, opened, name as u32, memo, solve)?;
+        let tried = left_in(alloc, kind, parts, hypotheses, opened, name as u32, memo, solve)?;
         noted |= tried.noted;
         match tried.made {
             Some(mut more) => left.append(&mut more)?,

@@ -1,6 +1,6 @@
 -- What the answers of calls say.
 use Rattle.std.specs.Prelude.{◌≡◌, ℕ, Bool, true, false, ◌&&◌, Option, Some, None, List, [], ◌∷◌, ◌++◌, Contains, length, map}
-use Rattle.std.specs.List.{AllZip, fold, list_all}
+use Rattle.std.specs.List.{All, AllZip, fold, list_all}
 use Rattle.std.specs.Option.{option_map}
 use denote.Ref.{Bor}
 use Rattle.rx_plain.specs.Formed.{Formed}
@@ -22,13 +22,17 @@ use Rattle.rx_term.specs.declared.rule_set.RuleParts.{RuleParts}
 use Rattle.rx_term.specs.declared.rule_set.SymInfo.{SymInfo}
 use Rattle.rx_poly.specs.Variables.{uses_below}
 use Rattle.rx_anchors.specs.Members.{arity_of, is_member}
+use Rattle.rx_anchors.specs.declared.members.Members.{Members}
 use Rattle.rx_anchors.specs.Values.{polynomial_of, with_choice, without_polynomials}
 use Rattle.rx_rank.specs.Candidates.{with_candidate}
+use Rattle.rx_rank.specs.Ranking.{Partition}
 use Rattle.rx_rank.specs.Choices.{RankChoice, falls_by, filled, holds_by, is_yes}
 use Rattle.rx_rank.specs.declared.attempt.Attempt.{Attempt}
 use Rattle.rx_rank.specs.declared.attempt.Finding.{Finding}
 use Rattle.rx_rank.specs.declared.attempt.Finding.TheVariants as findings
 use Rattle.rx_rank.specs.declared.fitting.Fit.{Fit}
+use Rattle.rx_rank.specs.declared.kind.RankingKind.{RankingKind}
+use Rattle.rx_rank.specs.declared.kind.RankingKind.TheVariants.{Plain, Wider}
 
 -- ---- attempts and findings
 
@@ -148,6 +152,16 @@ pub record IsFirstFit (infos : List SymInfo) (pairs : List Pair) (anchors order 
   pub among : Contains choices choice
   pub chosen : IsChosen infos pairs anchors order choice fit
 
+-- ---- the symbols of a component in memory
+
+abbrev pub partition_of : Members → Partition
+partition_of m = record { anchors = m.anchors.items; others = m.others.items }
+
+-- they are of the component with that name
+pub record AreOf (names : List ℕ) (c : ℕ) (part : Partition) : Type 0 where
+  pub anchors : All (λ f. is_member names c f ≡ true) part.anchors
+  pub others : All (λ f. is_member names c f ≡ true) part.others
+
 -- ---- what the polynomials of a component are like
 
 -- all variables of the rules' rows pass the test, or all of a pair
@@ -159,19 +173,25 @@ pair_passes test pair =
     rows_pass test pair.phi && (list_all (passes test) pair.left_args &&
     list_all (passes test) pair.right_args)
 
+-- so all of the rows of domains, where these are candidates
+abbrev pub domains_pass : RankingKind → (ℕ → Bool) → List (List Row) → Bool
+domains_pass Plain test domains = true
+domains_pass Wider test domains = list_all (rows_pass test) domains
+
 -- the polynomial is of a symbol of the component, over its arguments, with no variables but those
--- of the rules' rows and of the pairs
-pub record IsOwn (parts : RuleParts) (hypotheses : List Rule) (names : List ℕ) (c : ℕ)
-    (pairs : List Pair) (f : ℕ) (p : Body) : Type 0 where
+-- of the rows that candidates come from and of the pairs
+pub record IsOwn (kind : RankingKind) (parts : RuleParts) (hypotheses : List Rule) (names : List ℕ)
+    (c : ℕ) (pairs : List Pair) (f : ℕ) (p : Body) : Type 0 where
   pub member : is_member names c f ≡ true
   pub over : uses_below (arity_of parts.symbols f) p ≡ true
   pub own_variables : (test : ℕ → Bool) → rules_pass test (parts.rules ++ hypotheses) ≡ true →
+      domains_pass kind test parts.domains ≡ true →
       list_all (pair_passes test) pairs ≡ true → passes test p ≡ true
 
-pub record IsComponentFit (parts : RuleParts) (hypotheses : List Rule) (names : List ℕ) (c : ℕ)
-    (pairs : List Pair) (fit : Fit) : Type 0 where
+pub record IsComponentFit (kind : RankingKind) (parts : RuleParts) (hypotheses : List Rule)
+    (names : List ℕ) (c : ℕ) (pairs : List Pair) (fit : Fit) : Type 0 where
   pub values : List (Option Body)
   pub fit_is : IsFit values pairs fit
   pub count : length values ≡ length parts.symbols
   pub own : (f : ℕ) (p : Body) → polynomial_of values f ≡ Some p →
-      IsOwn parts hypotheses names c pairs f p
+      IsOwn kind parts hypotheses names c pairs f p

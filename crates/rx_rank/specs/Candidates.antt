@@ -12,9 +12,13 @@ use Rattle.rx_row.specs.Parts.{poly_of}
 use Rattle.rx_row.specs.declared.row.Row.{Row}
 use Rattle.rx_row.specs.declared.row.Row.TheVariants.{Ge, Eq, Ne}
 use Rattle.rx_solve.specs.Attempts.{Tried, applies, applying, is_noted}
+use Rattle.rx_term.specs.Domains.{domain_of}
 use Rattle.rx_term.specs.declared.rule.Rule.{Rule}
-use Rattle.rx_anchors.specs.Members.{is_rule_of}
+use Rattle.rx_term.specs.declared.rule_set.RuleParts.{RuleParts}
+use Rattle.rx_anchors.specs.Members.{arity_of, is_rule_of}
 use Rattle.rx_rank.specs.Tries.{formed_tried}
+use Rattle.rx_rank.specs.declared.kind.RankingKind.{RankingKind}
+use Rattle.rx_rank.specs.declared.kind.RankingKind.TheVariants.{Plain, Wider}
 
 -- -p, where it keeps the limits
 abbrev pub opposite_tried : Body → Tried Body
@@ -47,10 +51,27 @@ abbrev pub candidates : List ℕ → ℕ → List Rule → ℕ → List Body
 candidates names c rules arity =
     fold with_candidate [] (applying (all_candidates names c rules arity))
 
--- for each anchor, by the numbers of arguments; and whether one of them passes the limits
-abbrev pub candidate_lists : List ℕ → ℕ → List Rule → List ℕ → List (List Body)
-candidate_lists names c rules arities = map (candidates names c rules) arities
-
+-- whether one of them passes the limits, for one of the anchors with those numbers of arguments
 abbrev pub are_noted : List ℕ → ℕ → List Rule → List ℕ → Bool
 are_noted names c rules arities =
     list_any (λ arity. is_noted (all_candidates names c rules arity)) arities
+
+-- ---- rows of an anchor's own domain
+
+-- the polynomial of an inequality p >= 0 that is over n arguments
+abbrev pub own_by : ℕ → Row → List Body
+own_by arity (Ge p) = if uses_below arity p then p ∷ [] else []
+own_by arity (Eq p) = []
+own_by arity (Ne p) = []
+
+-- those of the rows of its domain, in the wider ranking
+abbrev pub own_candidates : RankingKind → ℕ → List Row → List Body
+own_candidates Plain arity rows = []
+own_candidates Wider arity rows = flat_map (own_by arity) rows
+
+-- the candidates of the anchor f: behind those of the rules its own, each once
+abbrev pub candidates_at : RankingKind → RuleParts → List Rule → List ℕ → ℕ → ℕ → List Body
+candidates_at kind parts hypotheses names c f =
+    fold with_candidate
+    (candidates names c (parts.rules ++ hypotheses) (arity_of parts.symbols f))
+    (own_candidates kind (arity_of parts.symbols f) (domain_of parts f))

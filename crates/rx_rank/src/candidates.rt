@@ -1,19 +1,23 @@
 //! The polynomials that an anchor of a component may get.
-ghost use Rattle.std.specs.Prelude.{◌≡◌, ◌∷◌, ◌++◌, [], IfOk, OnOk};
-ghost use Rattle.std.specs.List.{flat_map, list_any};
+ghost use Rattle.std.specs.Prelude.{◌≡◌, ◌∷◌, ◌++◌, [], IfOk, OnOk, map};
+ghost use Rattle.std.specs.List.{flat_map, fold, list_any};
 ghost use Rattle.rx_poly.specs.contracts.body.BodyPartialEq.TheImpl as body_equal;
 ghost use Rattle.rx_anchors.specs.Choices.{lists_in};
 ghost use Rattle.rx_rank.specs.Answers.{Gathers};
-ghost use Rattle.rx_rank.specs.Candidates.{all_candidates, are_noted, candidate_lists, candidates};
-ghost use Rattle.rx_rank.specs.Candidates.{candidates_by, opposite_tried, row_candidates};
-ghost use Rattle.rx_rank.specs.Candidates.{rule_candidates, with_candidate};
+ghost use Rattle.rx_anchors.specs.Members.{arity_of};
+ghost use Rattle.rx_rank.specs.Candidates.{all_candidates, are_noted, candidates_at};
+ghost use Rattle.rx_rank.specs.Candidates.{candidates_by, opposite_tried, own_by, own_candidates};
+ghost use Rattle.rx_rank.specs.Candidates.{row_candidates, rule_candidates, with_candidate};
 ghost use Rattle.rx_solve.specs.Attempts.{applies, is_noted};
+ghost use Rattle.rx_term.specs.Domains.{domain_of};
 
-use rx_anchors::is_rule_of;
+use crate::kind::RankingKind;
+use crate::open_component::OpenComponent;
+use rx_anchors::{arity_of, is_rule_of};
 use rx_plain::NoMemory;
 use rx_poly::{Poly, PolyEnd, uses_below};
 use rx_row::Row;
-use rx_term::Rule;
+use rx_term::{Rule, RuleParts};
 use std::alloc::Global;
 
 /// Adds the polynomial, unless it is one of them.
@@ -159,27 +163,110 @@ pub(crate) struct Candidates {
     pub(crate) noted: bool,
 }
 
-/// The candidates of an anchor with that many arguments, from the rules and then the hypotheses.
+/// Adds the polynomial of the row, where it is an inequality over that many arguments.
+fn push_own(polys: &mut Vec<Poly>, alloc: Global, arity: u32, row: &Row) -> Result<(), NoMemory>
+    ensures { OnOk result (polys.new.items ≡
+        fold with_candidate polys.old.items (own_by arity row.now)) }
+{
+    match row {
+        Row::Ge(poly) => {
+            if uses_below(poly, arity) {
+                push_once(polys, poly.try_clone(alloc)?)
+            } else {
+                Ok(())
+            }
+        }
+        Row::Eq(_) => Ok(()),
+        Row::Ne(_) => Ok(()),
+    }
+}
+
+/// Adds the polynomials of the inequalities among the rows, in order.
+fn push_own_rows(
+    polys: &mut Vec<Poly>,
+    alloc: Global,
+    arity: u32,
+    rows: &[Row],
+) -> Result<(), NoMemory>
+    ensures { OnOk result (polys.new.items ≡
+        fold with_candidate polys.old.items (flat_map (own_by arity) rows.now)) }
+{
+    for row in rows {
+        push_own(polys, alloc, arity, row)?;
+    }
+    Ok(())
+}
+
+/// The rows of the symbol's domain, borrowed.
+fn domain_rows(parts: &RuleParts, symbol: u32) -> &[Row]
+    ensures { result.now ≡ domain_of parts.now symbol }
+{
+    match parts.domains.as_slice().get(symbol as usize) {
+        Some(rows) => rows.rows(),
+        None => &[],
+    }
+}
+
+/// In the wider ranking adds the candidates that come from the symbol's domain.
+fn push_domain(
+    polys: &mut Vec<Poly>,
+    alloc: Global,
+    component: &OpenComponent,
+    arity: u32,
+    symbol: u32,
+) -> Result<(), NoMemory>
+    ensures { OnOk result (polys.new.items ≡ fold with_candidate polys.old.items
+        (own_candidates component.now.kind arity (domain_of component.now.parts.now symbol))) }
+{
+    match component.kind {
+        RankingKind::Plain => Ok(()),
+        RankingKind::Wider => {
+            let rows = domain_rows(component.parts, symbol);
+            push_own_rows(polys, alloc, arity, rows)
+        }
+    }
+}
+
+/// Adds the candidates that come from the rules and then from the hypotheses, for that many
+/// arguments; true where one passes the limits.
+fn push_stated(
+    polys: &mut Vec<Poly>,
+    alloc: Global,
+    component: &OpenComponent,
+    arity: u32,
+) -> Result<bool, NoMemory>
+    ensures { IfOk result (Gathers (all_candidates component.now.names.now component.now.name
+        (component.now.parts.now.rules ++ component.now.hypotheses.now) arity) polys.old.items
+        polys.new.items) }
+{
+    let names = component.names;
+    let name = component.name;
+    let rules = component.parts.rules.as_slice();
+    let first = push_rules(polys, alloc, names, name, arity, rules)?;
+    let second = push_rules(polys, alloc, names, name, arity, component.hypotheses)?;
+    Ok(first | second)
+}
+
+/// The candidates of an anchor of the component: those that come from the rules and the hypotheses,
+/// and behind them in the wider ranking those that come from its own domain.
 fn anchor_candidates(
     alloc: Global,
-    names: &[u32],
-    name: u32,
-    rules: &[Rule],
-    hypotheses: &[Rule],
-    arity: u32,
+    component: &OpenComponent,
+    symbol: u32,
 ) -> Result<Candidates, NoMemory>
     ensures polys { IfOk result (λ c. c.polys.items ≡
-        candidates names.now name (rules.now ++ hypotheses.now) arity) }
+        candidates_at component.now.kind component.now.parts.now component.now.hypotheses.now
+        component.now.names.now component.now.name symbol) }
     ensures noted { IfOk result (λ c. c.noted ≡
-        is_noted (all_candidates names.now name (rules.now ++ hypotheses.now) arity)) }
+        is_noted (all_candidates component.now.names.now component.now.name
+        (component.now.parts.now.rules ++ component.now.hypotheses.now)
+        (arity_of component.now.parts.now.symbols symbol))) }
 {
+    let arity = arity_of(component.parts.symbols.as_slice(), symbol);
     let mut polys = Vec::new(alloc);
-    let first = push_rules(&mut polys, alloc, names, name, arity, rules)?;
-    let second = push_rules(&mut polys, alloc, names, name, arity, hypotheses)?;
-    Ok(Candidates {
-        polys,
-        noted: first | second,
-    })
+    let noted = push_stated(&mut polys, alloc, component, arity)?;
+    push_domain(&mut polys, alloc, component, arity, symbol)?;
+    Ok(Candidates { polys, noted })
 }
 
 /// The candidates of anchors, and whether one passes the limits.
@@ -191,24 +278,24 @@ pub(crate) struct CandidateLists {
     pub(crate) noted: bool,
 }
 
-/// The candidates of anchors with those numbers of arguments.
+/// The candidates of these anchors of the component.
 pub(crate) fn all_lists(
     alloc: Global,
-    names: &[u32],
-    name: u32,
-    rules: &[Rule],
-    hypotheses: &[Rule],
-    arities: &[u32],
+    component: &OpenComponent,
+    anchors: &[u32],
 ) -> Result<CandidateLists, NoMemory>
     ensures lists { IfOk result (λ c. lists_in c.lists.items ≡
-        candidate_lists names.now name (rules.now ++ hypotheses.now) arities.now) }
+        map (candidates_at component.now.kind component.now.parts.now component.now.hypotheses.now
+        component.now.names.now component.now.name) anchors.now) }
     ensures noted { IfOk result (λ c. c.noted ≡
-        are_noted names.now name (rules.now ++ hypotheses.now) arities.now) }
+        are_noted component.now.names.now component.now.name
+        (component.now.parts.now.rules ++ component.now.hypotheses.now)
+        (map (arity_of component.now.parts.now.symbols) anchors.now)) }
 {
     let mut lists = Vec::new(alloc);
     let mut noted = false;
-    for arity in arities {
-        let one = anchor_candidates(alloc, names, name, rules, hypotheses, *arity)?;
+    for symbol in anchors {
+        let one = anchor_candidates(alloc, component, *symbol)?;
         noted |= one.noted;
         lists.push(one.polys)?;
     }

@@ -1,4 +1,4 @@
-//! What comes of the choices, in order, at most 4,096 of them: each is formed when it is tried.
+//! What comes of the choices, in order, at most so many of them: each is formed when it is tried.
 //! First no symbol is raised, and then each symbol that may be.
 ghost use Rattle.std.specs.Prelude.{◌≡◌, map, take, IfOk, IfSome, Some};
 ghost use Rattle.std.specs.List.{flat_map};
@@ -6,7 +6,7 @@ ghost use Rattle.rx_anchors.specs.Choices.{lists_in, products};
 ghost use Rattle.rx_anchors.specs.Values.{polys_at};
 ghost use Rattle.rx_rank.specs.Answers.{IsChosen, IsFirstFit, still_open, tried_as};
 ghost use Rattle.rx_rank.specs.Choices.{all_choices, choosing, plain_choice, raised_choices};
-ghost use Rattle.rx_rank.specs.Ranking.{first_fit, most_choices};
+ghost use Rattle.rx_rank.specs.Ranking.{first_fit};
 ghost use Rattle.rx_solve.specs.Answers.{IsSolver};
 ghost use Rattle.rx_solve.specs.Attempts.{first_applying};
 
@@ -22,9 +22,6 @@ use rx_poly::Poly;
 use rx_row::Constraint;
 use rx_term::SymInfo;
 use std::alloc::Global;
-
-/// How many choices are tried at most.
-const MOST_CHOICES: usize = 4096;
 
 /// What comes of a choice of candidates, with that symbol raised if there is one.
 fn choosing<S: FnMut(&Constraint) -> Result<Option<Cert>, FmEnd>>(
@@ -61,6 +58,7 @@ fn choosing<S: FnMut(&Constraint) -> Result<Option<Cert>, FmEnd>>(
 /// The first choice of candidates that is fit with no symbol raised.
 fn first_plain<S: FnMut(&Constraint) -> Result<Option<Cert>, FmEnd>>(
     alloc: Global,
+    most: usize,
     infos: &[SymInfo],
     pairs: &mut [KnownPair],
     anchors: &[u32],
@@ -74,13 +72,13 @@ fn first_plain<S: FnMut(&Constraint) -> Result<Option<Cert>, FmEnd>>(
     ensures tried { IfOk result (λ t. tried_as
         (λ fit. still_open pairs.old fit.falls.items) t ≡
         first_applying (map (choosing infos.now pairs.old anchors.now order.now)
-        (map plain_choice (take most_choices (products (lists_in lists.now)))))) }
+        (map plain_choice (take most (products (lists_in lists.now)))))) }
     ensures fit { IfOk result (λ t. IfSome t.made
         (IsFirstFit infos.now pairs.old anchors.now order.now
-        (map plain_choice (take most_choices (products (lists_in lists.now)))))) }
+        (map plain_choice (take most (products (lists_in lists.now)))))) }
 {
     let mut noted = false;
-    for at in 0..MOST_CHOICES {
+    for at in 0..most {
         let choice = match choice_at(alloc, lists, at)? {
             Some(choice) => choice,
             None => return Ok(Attempt { made: None, noted }),
@@ -140,6 +138,7 @@ fn first_raised_of<S: FnMut(&Constraint) -> Result<Option<Cert>, FmEnd>>(
 /// choice is fit.
 fn first_raised<S: FnMut(&Constraint) -> Result<Option<Cert>, FmEnd>>(
     alloc: Global,
+    most: usize,
     infos: &[SymInfo],
     pairs: &mut [KnownPair],
     anchors: &[u32],
@@ -155,14 +154,14 @@ fn first_raised<S: FnMut(&Constraint) -> Result<Option<Cert>, FmEnd>>(
         (λ fit. still_open pairs.old fit.falls.items) t ≡
         first_applying (map (choosing infos.now pairs.old anchors.now order.now)
         (flat_map (raised_choices raisable.now)
-        (take most_choices (products (lists_in lists.now)))))) }
+        (take most (products (lists_in lists.now)))))) }
     ensures fit { IfOk result (λ t. IfSome t.made
         (IsFirstFit infos.now pairs.old anchors.now order.now
         (flat_map (raised_choices raisable.now)
-        (take most_choices (products (lists_in lists.now)))))) }
+        (take most (products (lists_in lists.now)))))) }
 {
     let mut noted = false;
-    for at in 0..MOST_CHOICES {
+    for at in 0..most {
         let choice = match choice_at(alloc, lists, at)? {
             Some(choice) => choice,
             None => return Ok(Attempt { made: None, noted }),
@@ -182,10 +181,11 @@ fn first_raised<S: FnMut(&Constraint) -> Result<Option<Cert>, FmEnd>>(
     Ok(Attempt { made: None, noted })
 }
 
-/// The first choice of candidates that is fit, first with no symbol raised and then with one of
-/// those that may be; none is tried where the other symbols have no order.
+/// The first of at most so many choices of candidates that is fit, first with no symbol raised and
+/// then with one of those that may be; none is tried where the other symbols have no order.
 pub(crate) fn first_fit<S: FnMut(&Constraint) -> Result<Option<Cert>, FmEnd>>(
     alloc: Global,
+    most: usize,
     infos: &[SymInfo],
     pairs: &mut [KnownPair],
     anchors: &[u32],
@@ -199,13 +199,13 @@ pub(crate) fn first_fit<S: FnMut(&Constraint) -> Result<Option<Cert>, FmEnd>>(
     ensures pairs { pairs.new ≡ pairs.old }
     ensures tried { IfOk result (λ t. tried_as
         (λ fit. still_open pairs.old fit.falls.items) t ≡
-        first_fit infos.now pairs.old anchors.now raisable.now (lists_in lists.now)
+        first_fit most infos.now pairs.old anchors.now raisable.now (lists_in lists.now)
         (Some order.now)) }
     ensures fit { IfOk result (λ t. IfSome t.made
         (IsFirstFit infos.now pairs.old anchors.now order.now
-        (all_choices raisable.now (take most_choices (products (lists_in lists.now)))))) }
+        (all_choices raisable.now (take most (products (lists_in lists.now)))))) }
 {
-    let plain = first_plain(alloc, infos, pairs, anchors, lists, order, solve)?;
+    let plain = first_plain(alloc, most, infos, pairs, anchors, lists, order, solve)?;
     if plain.made.is_some() {
         return Ok(plain);
     }
@@ -213,6 +213,8 @@ pub(crate) fn first_fit<S: FnMut(&Constraint) -> Result<Option<Cert>, FmEnd>>(
         return Ok(plain);
     }
     let noted = plain.noted;
-    let raised = first_raised(alloc, infos, pairs, anchors, raisable, lists, order, solve)?;
+    let raised = first_raised(
+        alloc, most, infos, pairs, anchors, raisable, lists, order, solve,
+    )?;
     Ok(noted_before(noted, raised))
 }

@@ -1,3 +1,4 @@
+use Rattle.c_ast.specs.declared.integers.Integers.TheVariants.{Unbounded}
 use Rattle.c_meaning.specs.Programs.{rounds}
 use Rattle.c_meaning.specs.Statements.{calls_with}
 use Rattle.c_meaning.proofs.StraightValues.{expr_straight, body_straight}
@@ -5,7 +6,7 @@ use Rattle.c_meaning.proofs.laws.straight_bodies_return_their_value.Goals as goa
 
 pub returns-clause-expression : goal.returns-clause-expression
 returns-clause-expression c =
-    λ program n e s k value. expr_straight (calls_with (rounds program n)) s e k value
+    λ program n e s k value. expr_straight (calls_with (rounds Unbounded program n)) s e k value
 
 pub returns-clause-call : goal.returns-clause-call
 returns-clause-call c = body_straight

@@ -2,7 +2,7 @@
 use Rattle.std.proofs.Common.{◌≡◌, drop, not}
 use Rattle.std.specs.List.{list_any}
 use Rattle.rx_poly.specs.Normal.{is_empty}
-use Rattle.rx_rank.proofs.component.have_row.Given as goal
+use Rattle.rx_rank.proofs.partition.have_row.Given as goal
 
 abbrev pub invariant-loop-rows : goal.invariant-loop-rows
 invariant-loop-rows l =

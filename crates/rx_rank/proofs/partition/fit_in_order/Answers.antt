@@ -10,7 +10,7 @@ use Rattle.rx_rank.specs.Tries.{noting}
 use Rattle.rx_rank.specs.declared.fitting.Fit.{Fit}
 use Rattle.rx_rank.proofs.Choosing.{ordered}
 use Rattle.rx_rank.proofs.TryLaws.{noted_alone}
-use Rattle.rx_rank.proofs.component.fit_in_order.Goals as goal
+use Rattle.rx_rank.proofs.partition.fit_in_order.Goals as goal
 
 pub returns-in_default-clause-tried : goal.returns-in_default-clause-tried
 returns-in_default-clause-tried g c =

@@ -6,7 +6,7 @@ use Rattle.rx_anchors.specs.Choices.{lists_in, products}
 use Rattle.rx_rank.specs.Answers.{IsFirstFit, still_open, tried_as}
 use Rattle.rx_rank.specs.Choices.{all_choices}
 use Rattle.rx_rank.specs.Ranking.{first_fit, most_choices}
-use Rattle.rx_rank.proofs.component.first_fit_with.Goals as goal
+use Rattle.rx_rank.proofs.partition.first_fit_with.Goals as goal
 
 pub returns-clause-tried : goal.returns-clause-tried
 returns-clause-tried g c =
