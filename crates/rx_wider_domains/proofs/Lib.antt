@@ -1,1 +1,2 @@
 -- Lemmas on the definitions of specs/.
+pub mod TakenLaws

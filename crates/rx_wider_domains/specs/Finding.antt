@@ -8,6 +8,7 @@ use Rattle.rx_domain.specs.Setting.{with_domains}
 use Rattle.rx_find_cover.specs.Coverable.{is_coverable}
 use Rattle.rx_find_domains.specs.Finding.{is_yes, settled, without}
 use Rattle.rx_rank.specs.Ranking.{ranked}
+use Rattle.rx_rank.specs.declared.kind.RankingKind.TheVariants.{Wider}
 use Rattle.rx_term.specs.declared.rule.Equation.{Equation}
 use Rattle.rx_term.specs.declared.rule_set.RuleParts.{RuleParts}
 use Rattle.rx_wider_domains.specs.Groups.{by_symbol}
@@ -17,7 +18,7 @@ use Rattle.rx_wider_domains.specs.Lists.{wider_lists}
 
 -- a search can begin over the rules
 abbrev pub is_ready : RuleParts → Bool
-is_ready parts = is_coverable parts && is_yes (ranked parts [])
+is_ready parts = is_coverable parts && is_yes (ranked Wider parts [])
 
 module _ (parts : RuleParts) (goal : Equation) where
   -- the domains that come of the lists

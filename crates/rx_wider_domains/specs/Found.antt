@@ -7,6 +7,7 @@ use Rattle.rx_domain.specs.declared.domains.Domains.{Domains}
 use Rattle.rx_find_cover.specs.Coverable.{is_coverable}
 use Rattle.rx_find_domains.specs.Kept.{AreAllKeeps}
 use Rattle.rx_rank.specs.Ranking.{ranked}
+use Rattle.rx_rank.specs.declared.kind.RankingKind.TheVariants.{Wider}
 use Rattle.rx_term.specs.declared.rule.Equation.{Equation}
 use Rattle.rx_term.specs.declared.rule_set.RuleParts.{RuleParts}
 
@@ -17,4 +18,4 @@ pub record AreWider (parts : RuleParts) (goal : Equation) (d : Domains) : Type 0
   pub keeps : keeping (with_domains parts d.rows) goal d.keeps ≡ Keeps
   pub certificates : AreAllKeeps (with_domains parts d.rows) goal d.keeps
   pub coverable : is_coverable (with_domains parts d.rows) ≡ true
-  pub ranked : ranked (with_domains parts d.rows) [] ≡ Yes
+  pub ranked : ranked Wider (with_domains parts d.rows) [] ≡ Yes

@@ -9,6 +9,7 @@ ghost use Rattle.rx_find_cover.specs.Coverable.{is_coverable};
 ghost use Rattle.rx_find_domains.specs.Groups.{groups};
 ghost use Rattle.rx_find_domains.specs.Kept.{AreAllKeeps};
 ghost use Rattle.rx_rank.specs.Ranking.{ranked};
+ghost use Rattle.rx_rank.specs.declared.kind.RankingKind.TheVariants.{Wider};
 ghost use Rattle.rx_solve.specs.Answers.{IsSolver};
 ghost use Rattle.rx_wider_domains.specs.Finding.{domains_by, domains_of, left_out, serves, wider_domains};
 ghost use Rattle.rx_wider_domains.specs.Found.{AreWider};
@@ -173,7 +174,7 @@ pub fn find_wider_domains<S: FnMut(&Constraint) -> Result<Option<Cert>, FmEnd>>(
     ensures coverable { IfOk result (λ found. IfSome found (λ d.
         is_coverable (with_domains rules.now d.rows) ≡ true)) }
     ensures ranked { IfOk result (λ found. IfSome found (λ d.
-        ranked (with_domains rules.now d.rows) [] ≡ Yes)) }
+        ranked Wider (with_domains rules.now d.rows) [] ≡ Yes)) }
 {
     let names = group_names(alloc, rules)?;
     let aim = Aim {

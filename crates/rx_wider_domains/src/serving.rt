@@ -6,6 +6,7 @@ ghost use Rattle.rx_find_cover.specs.Coverable.{is_coverable};
 ghost use Rattle.rx_find_domains.specs.Finding.{is_yes};
 ghost use Rattle.rx_find_domains.specs.Groups.{groups};
 ghost use Rattle.rx_rank.specs.Ranking.{ranked};
+ghost use Rattle.rx_rank.specs.declared.kind.RankingKind.TheVariants.{Wider};
 ghost use Rattle.rx_solve.specs.Answers.{IsSolver};
 ghost use Rattle.rx_wider_domains.specs.Finding.{domains_of, is_ready, serves};
 
@@ -18,6 +19,7 @@ use rx_fm::FmEnd;
 use rx_has_ranks::{RankMemo, has_ranks_with};
 use rx_pairs::listed_pairs;
 use rx_plain::{Items, NoMemory};
+use rx_rank::RankingKind;
 use rx_row::Constraint;
 use rx_term::{Equation, RuleSet};
 use std::alloc::Global;
@@ -59,10 +61,10 @@ fn is_ranked<S: FnMut(&Constraint) -> Result<Option<Cert>, FmEnd>>(
 ) -> Result<bool, NoMemory>
     requires solver { IsSolver S.FnMut solve.old }
     ensures solver { IsSolver S.FnMut solve.new }
-    ensures ranked { IfOk result (λ is. is ≡ is_yes (ranked rules.now [])) }
+    ensures ranked { IfOk result (λ is. is ≡ is_yes (ranked Wider rules.now [])) }
 {
     let listed = listed_pairs(alloc, rules, &[])?;
-    match has_ranks_with(alloc, rules, &listed, &[], memo, solve) {
+    match has_ranks_with(alloc, RankingKind::Wider, rules, &listed, &[], memo, solve) {
         Ok(ranked) => Ok(ranked),
         Err(FmEnd::Large) => Ok(false),
         Err(FmEnd::NoMemory) => Err(NoMemory),
