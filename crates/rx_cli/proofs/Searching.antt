@@ -144,7 +144,8 @@ module _ (problem : Problem) (effort : Effort) where
       subst (λ s. IsEnd effort.depth effort.budget s end) (sym (at ∙ none_wider noted some)) is
 
   -- over the rules as they are
-  pub plain_found : (found : Result Log SearchEnd) → beginning problem.rules problem.goal ≡ Over Plain None
+  pub plain_found : (found : Result Log SearchEnd) → beginning problem.rules problem.goal ≡
+      Over Plain None
       → IsFoundOver Plain problem.rules problem.goal effort found → IsFound problem effort all found
   plain_found (Ok log) from is = record {
     closes = sought_over Plain None from ∙ is.closes;
@@ -158,34 +159,36 @@ module _ (problem : Problem) (effort : Effort) where
   -- inside domains
   module _ (inside : Inside) (is : IsInside problem.rules problem.goal inside)
       (from : beginning problem.rules problem.goal ≡ Over inside.kind (Some inside.domains.rows))
-      where
-    inside_sought : all ≡ both_over inside.kind inside.rules problem.goal effort
-    inside_sought = sought_over inside.kind (Some inside.domains.rows) from
-        ∙ ap (λ set. both_over inside.kind set problem.goal effort) (sym is.set)
+    where
+      inside_sought : all ≡ both_over inside.kind inside.rules problem.goal effort
+      inside_sought = sought_over inside.kind (Some inside.domains.rows) from
+          ∙ ap (λ set. both_over inside.kind set problem.goal effort) (sym is.set)
 
-    pub inside_log : (log made : Log) → IsOver inside.kind inside.rules problem.goal effort log
-        → made ≡ record log { domains = Some inside.domains }
-        → IsAccepted problem.rules problem.goal made → is_shallow_log made ≡ true →
-        IsSolution problem all made
-    inside_log log made over same accepted shallow = record {
-      closes = inside_sought ∙ over.closes
-          ∙ ap (λ (log : Log). Closed (moves_of log)) (sym same);
-      accepted = accepted;
-      domains =
-          (inside.kind, from ∙ ap (λ (l : Log). Over inside.kind (rows_of l.domains)) (sym same));
-      shallow = shallow;
-    }
+      pub inside_log : (log made : Log) → IsOver inside.kind inside.rules problem.goal effort log
+          → made ≡ record log { domains = Some inside.domains }
+          → IsAccepted problem.rules problem.goal made → is_shallow_log made ≡ true →
+          IsSolution problem all made
+      inside_log log made over same accepted shallow = record {
+        closes = inside_sought ∙ over.closes
+            ∙ ap (λ (log : Log). Closed (moves_of log)) (sym same);
+        accepted = accepted;
+        domains =
+            (inside.kind, from ∙ ap (λ (l : Log). Over inside.kind (rows_of l.domains)) (sym same));
+        shallow = shallow;
+      }
 
-    pub inside_end : (end : SearchEnd)
-        → IsEnd effort.depth effort.budget (both_over inside.kind inside.rules problem.goal effort) end
-        → IsEnd effort.depth effort.budget all end
-    inside_end end ends =
-        subst (λ s. IsEnd effort.depth effort.budget s end) (sym inside_sought) ends
+      pub inside_end : (end : SearchEnd)
+          → IsEnd effort.depth effort.budget (both_over inside.kind inside.rules problem.goal effort)
+          end
+          → IsEnd effort.depth effort.budget all end
+      inside_end end ends =
+          subst (λ s. IsEnd effort.depth effort.budget s end) (sym inside_sought) ends
 
 -- ---- proofs
 
 -- a closed node of the wider search is a proof
-pub closed_proved : (kind : RankingKind) (parts : RuleParts) (goal : Equation) (node : Node) (steps : List Step)
+pub closed_proved : (kind : RankingKind) (parts : RuleParts) (goal : Equation) (node : Node)
+    (steps : List Step)
     (hypotheses : List Rule) → IsClosedNode kind parts goal node → steps ≡ node.steps →
     hypotheses ≡ node.at.state.hypotheses → IsProved kind parts goal steps hypotheses
 closed_proved kind parts goal node steps hypotheses is same kept =

@@ -254,7 +254,7 @@ fn search_from<S: FnMut(&Constraint) -> Result<Option<Cert>, FmEnd>>(
     let listed = rule_pairs(alloc, rules)?;
     let begun = begin(alloc, rules, &listed, goal, ranks, solve)?;
     match begun {
-        Beginning::Plain => {
+        Beginning::Bare => {
             let space = SearchSpace {
                 rules,
                 listed: &listed,

@@ -1,5 +1,5 @@
 -- Where a search begins, and what it comes to from there.
-use Rattle.std.proofs.Common.{if◌then◌else◌, ◌≡◌, ℕ, ⊥, Bool, true, false, Option, Some, None, List, [], ◌∷◌, sym, ap, subst, ◌∙◌, refl}
+use Rattle.std.proofs.Common.{if◌then◌else◌, ◌≡◌, ℕ, Bool, true, false, Option, Some, None, List, [], ◌∷◌, sym, ap, subst, ◌∙◌, refl}
 use Rattle.std.proofs.lemmas.Bool.{and_from}
 use Rattle.std.specs.List.{AllZip, list_all}
 use Rattle.std.specs.Option.{option_map}
@@ -99,7 +99,7 @@ module _ (parts : RuleParts) (goal : Equation) where
       IsInside parts goal inside →
       stated_beginning parts goal ≡ begun_inside parts noted (found_domains parts goal) →
       BeginsWith inside noted b → IsStatedBegun parts goal b
-  begun_is noted inside begun.Plain plain is from with = absurd with
+  begun_is noted inside begun.Bare plain is from with = absurd with
   begun_is noted inside (begun.Inside other) plain is from with =
       subst (λ (i : Inside). IsStatedBegun parts goal (begun.Inside i)) (sym with.0) (
         from ∙ begins_over noted inside plain is ∙ with.2
@@ -118,13 +118,17 @@ module _ (parts : RuleParts) (goal : Equation) where
   begins_wider b is = ap (or_wider parts goal) is
 
   -- a search that begins somewhere, or of which something was noted, begins so
-  pub stays_begun : (b : Beginning) → (b ≡ begun.Unranked false → ⊥) →
-      IsStatedBegun parts goal b → IsBegun parts goal b
-  stays_begun begun.Plain other is = (begins_wider (Over Plain None) is.0, is.1)
-  stays_begun (begun.Inside inside) other is =
+  pub begun_bare : IsStatedBegun parts goal begun.Bare → IsBegun parts goal begun.Bare
+  begun_bare is = (begins_wider (Over Plain None) is.0, is.1)
+
+  pub begun_within : (inside : Inside) → IsStatedBegun parts goal (begun.Inside inside) →
+      IsBegun parts goal (begun.Inside inside)
+  begun_within inside is =
       (begins_wider (Over inside.kind (Some inside.domains.rows)) is.0, is.1, is.2)
-  stays_begun (begun.Unranked true) other is = begins_wider (Unranked true) is
-  stays_begun (begun.Unranked false) other is = absurd (other refl)
+
+  pub begun_noted : IsStatedBegun parts goal (begun.Unranked true) →
+      IsBegun parts goal (begun.Unranked true)
+  begun_noted is = begins_wider (Unranked true) is
 
   -- one that doesn't begins inside the wider domains, if there are some
   module _ (nowhere : stated_beginning parts goal ≡ Unranked false) (found : Option Domains)

@@ -43,8 +43,10 @@ use Rattle.rx_deepening.specs.declared.outcome.Outcome.TheVariants as outcomes
 
 -- ---- closed nodes
 
-pub no_goal_left : (kind : RankingKind) (parts : RuleParts) (depth budget : ℕ) (first node : nodes.Node)
-    → outcome budget (all_visits (settled parts) (menu kind parts) depth first) ≡ outcomes.Closed node →
+pub no_goal_left : (kind : RankingKind) (parts : RuleParts) (depth budget : ℕ)
+    (first node : nodes.Node)
+    → outcome budget (all_visits (settled parts)
+    (menu kind parts) depth first) ≡ outcomes.Closed node →
     node.state.goals ≡ []
 no_goal_left kind parts depth budget first node e =
     no_goal node.state.goals
@@ -59,16 +61,20 @@ closed_node P o node is holds = subst (IfClosed P) is holds
 
 pub closed_goals : (kind : RankingKind) (parts : RuleParts) (depth budget : ℕ) (first : nodes.Node)
     (o : Outcome Node (List Row)) (node : Node)
-    → seen_outcome node_of o ≡ outcome budget (all_visits (settled parts) (menu kind parts) depth first)
+    → seen_outcome node_of o ≡ outcome budget (all_visits (settled parts)
+    (menu kind parts) depth first)
     → o ≡ outcomes.Closed node → node.state.goals ≡ []
 closed_goals kind parts depth budget first o node seen is =
-    no_goal_left kind parts depth budget first (node_of node) (sym seen ∙ ap (seen_outcome node_of) is)
+    no_goal_left kind parts depth budget first (node_of node) (sym seen
+    ∙ ap (seen_outcome node_of) is)
 
 pub closed_steps : (kind : RankingKind) (parts : RuleParts) (depth budget : ℕ) (first : nodes.Node)
     (o : Outcome Node (List Row)) (node : Node) (steps : List Step)
-    → seen_outcome node_of o ≡ outcome budget (all_visits (settled parts) (menu kind parts) depth first)
+    → seen_outcome node_of o ≡ outcome budget (all_visits (settled parts)
+    (menu kind parts) depth first)
     → o ≡ outcomes.Closed node → steps ≡ node.steps
-    → search.of_outcome (outcome budget (all_visits (settled parts) (menu kind parts) depth first)) ≡
+    → search.of_outcome (outcome budget (all_visits (settled parts)
+    (menu kind parts) depth first)) ≡
     search.Closed (map move_of steps)
 closed_steps kind parts depth budget first o node steps seen is same =
     ap search.of_outcome (sym seen ∙ ap (seen_outcome node_of) is) ∙
@@ -77,13 +83,15 @@ closed_steps kind parts depth budget first o node steps seen is same =
 -- ---- logs
 
 -- a closed node is a proof
-pub node_proved : (kind : RankingKind) (parts : RuleParts) (goal : Equation) (node : Node) (steps : List Step)
+pub node_proved : (kind : RankingKind) (parts : RuleParts) (goal : Equation) (node : Node)
+    (steps : List Step)
     (hypotheses : List Rule) → IsNode kind parts goal node → node.state.goals ≡ [] →
     steps ≡ node.steps → hypotheses ≡ node.state.hypotheses →
     IsProved kind parts goal steps hypotheses
 node_proved kind parts goal node steps hypotheses is closed same kept =
     subst (λ (hs : List Rule). IsProved kind parts goal steps hs) (sym kept)
-    (subst (λ (xs : List Step). IsProved kind parts goal xs node.state.hypotheses) (sym same) (record {
+    (subst (λ (xs : List Step). IsProved kind parts goal xs node.state.hypotheses) (sym same)
+    (record {
       reached =
           subst (λ goals. IsReachedBy parts goal node.steps
           (record { goals = goals; hypotheses = node.state.hypotheses })) closed is.reached;
@@ -118,9 +126,11 @@ module _ (kind : RankingKind) (parts : RuleParts) (goal : Equation) (made : List
 -- ---- logs with domains
 
 -- where these are found, a log that is accepted inside them is accepted with them
-pub accepted_inside : (kind : RankingKind) (parts : RuleParts) (goal : Equation) (log made : Log) (domains : Domains)
+pub accepted_inside : (kind : RankingKind) (parts : RuleParts) (goal : Equation) (log made : Log)
+    (domains : Domains)
     → made ≡ record log { domains = Some domains } → AreFound kind parts goal domains
-    → verdict_over (with_domains parts domains.rows) goal log ≡ Accepted → IsAccepted parts goal made
+    → verdict_over (with_domains parts domains.rows) goal log ≡ Accepted →
+    IsAccepted parts goal made
 accepted_inside kind parts goal log made domains same found is =
     let set : RuleParts = with_domains parts domains.rows in
     let kept : Checked (List Rule) = kept_over set goal log in

@@ -99,7 +99,8 @@ module _ (parts : RuleParts) (goal : Equation) (goals : List Equation)
       map (attempted_onto here) (attempted_at parts (alone goal) goal)
   all_onto = all_onto_by (generalisations parts goal)
 
-  known_here : (kind : RankingKind) (ks : List KnownChoice) → map seen_known ks ≡ attempted_at parts (alone goal) goal
+  known_here : (kind : RankingKind) (ks : List KnownChoice) → map seen_known ks ≡
+      attempted_at parts (alone goal) goal
       → map (chosen_by kind parts here) ks ≡ chosen_at kind parts here goal
   known_here kind ks seen =
       each_seen kind parts here ks
@@ -171,7 +172,8 @@ module _ (kind : RankingKind) (parts : RuleParts) (from : Node) (k : KnownChoice
       (refl, taken_by step taken from.state.goals is.first)
 
   reached_here : (goal : Equation) → IsReached parts goal from → (o : Option Step) →
-      IfSome o IsTakenAlone → IfSome (led most_moves from o k.noted after_here).node (IsReached parts goal)
+      IfSome o IsTakenAlone → IfSome (led most_moves from o k.noted after_here).node
+      (IsReached parts goal)
   reached_here goal reached None taken = tt
   reached_here goal reached (Some step) taken =
       reached_by parts from after_here (tried_of (Some step)) goal (Some step) k.noted
@@ -179,7 +181,8 @@ module _ (kind : RankingKind) (parts : RuleParts) (from : Node) (k : KnownChoice
 
   -- nothing is kept: there are ranks still
   node_by : k.keeps ≡ false → (goal : Equation) → IsNode kind parts goal from → (o : Option Step) →
-      IfSome o IsTakenAlone → IfSome (led most_moves from o k.noted after_here).node (IsNode kind parts goal)
+      IfSome o IsTakenAlone → IfSome (led most_moves from o k.noted after_here).node
+      (IsNode kind parts goal)
   node_by e goal node None taken = tt
   node_by e goal node (Some step) taken =
       let hypotheses =
@@ -237,4 +240,5 @@ module _ (kind : RankingKind) (parts : RuleParts) (from : Node) (k : KnownChoice
           (λ b. IsTried from (if_ranks kind parts b (lifted from.state (seen_known k).tried))
           (record { node = None; noted = t.noted }))
           (sym kept)
-          (keeping_none from kind parts (lifted from.state (seen_known k).tried) t plainly_tried leads)
+          (keeping_none from kind parts (lifted from.state
+          (seen_known k).tried) t plainly_tried leads)

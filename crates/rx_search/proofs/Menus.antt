@@ -54,12 +54,14 @@ module _ (kind : RankingKind) (parts : RuleParts) (node : Node) where
 
   found_at : (first : Equation) (goals : List Equation) (found : Choices) (rows : Option (List Row))
       → slice_get goals 0 ≡ Some first
-      → AreChoices node (chosen_at kind parts node.state first) found → rows ≡ rows_if found.noted goals
+      → AreChoices node (chosen_at kind parts node.state first) found → rows ≡
+      rows_if found.noted goals
       → seen_menu node_of (record { choices = found.choices; note = rows }) ≡ by_goals goals
   found_at first [] found rows some are is = absurd cc
   found_at first (goal ∷ goals) found rows some are is =
       let same : first ≡ goal = cc in
-      let these = subst (λ goal. AreChoices node (chosen_at kind parts node.state goal) found) same are
+      let these = subst (λ goal. AreChoices node
+      (chosen_at kind parts node.state goal) found) same are
       in
       let noted = is ∙ ap (λ b. rows_if b (goal ∷ goals)) these.noted in
       λ i. record { choices = these.choices i; note = noted i }

@@ -46,7 +46,8 @@ module _ (parts : RuleParts) (node : Node) (new : State) (found : Found)
       }
 
   -- and it is a node of the search
-  pub settled_node : (kind : RankingKind) (goal : Equation) (steps : List Step) → steps ≡ node.steps ++ found.steps →
+  pub settled_node : (kind : RankingKind) (goal : Equation)
+      (steps : List Step) → steps ≡ node.steps ++ found.steps →
       new.hypotheses ≡ node.state.hypotheses
       → IsNode kind parts goal node → IsNode kind parts goal (after steps)
   settled_node kind goal steps same hypotheses old = record {

@@ -60,7 +60,10 @@ module _ (parts : RuleParts) (from : Node) (state : State) (tried : Tried Next) 
       → IsTried from tried (led most_moves from taken noted state)
   led_by None noted same takes =
       let (made, _) = takes in
-      record { node = ap (option_map (node_with most_moves (node_of from))) (sym made); noted = same }
+      record {
+        node = ap (option_map (node_with most_moves (node_of from))) (sym made);
+        noted = same;
+      }
   led_by (Some step) noted same takes =
       let (made, _) = takes in
       record {
@@ -126,7 +129,8 @@ module _ (from : Node) (kind : RankingKind) (parts : RuleParts) where
       (if_ranked (ranked kind parts node.state.hypotheses) node found.noted))
       is.noted (then_ranked node found.noted tried.made same)
 
-  none_by : (noted : Bool) (made : Option Next) → None ≡ option_map (node_with most_moves (node_of from)) made
+  none_by : (noted : Bool) (made : Option Next) → None ≡ option_map (node_with most_moves
+      (node_of from)) made
       → IsTried from (then_by made noted next_ranked) (record { node = None; noted = noted })
   none_by noted None same = record { node = refl; noted = refl }
   none_by noted (Some next) same = absurd cc
@@ -142,22 +146,26 @@ module _ (from : Node) (kind : RankingKind) (parts : RuleParts) where
       is.noted (none_by found.noted tried.made same)
 
 -- such a node is one of the search
-node_by : (kind : RankingKind) (parts : RuleParts) (goal : Equation) (node : Node) (noted : Bool) (said : Said) →
+node_by : (kind : RankingKind) (parts : RuleParts) (goal : Equation) (node : Node) (noted : Bool)
+    (said : Said) →
     ranked kind parts node.state.hypotheses ≡ said
     → IsReached parts goal node → IfSome (if_ranked said node noted).node (IsNode kind parts goal)
 node_by kind parts goal node noted Yes is reached = record { reached = reached; ranked = is }
 node_by kind parts goal node noted No is reached = tt
 node_by kind parts goal node noted Beyond is reached = tt
 
-pub node_ranked : (kind : RankingKind) (parts : RuleParts) (goal : Equation) (node : Node) (noted : Bool) →
+pub node_ranked : (kind : RankingKind) (parts : RuleParts) (goal : Equation) (node : Node)
+    (noted : Bool) →
     IsReached parts goal node
-    → IfSome (if_ranked (ranked kind parts node.state.hypotheses) node noted).node (IsNode kind parts goal)
+    → IfSome (if_ranked (ranked kind parts node.state.hypotheses) node noted).node
+    (IsNode kind parts goal)
 node_ranked kind parts goal node noted reached =
     node_by kind parts goal node noted (ranked kind parts node.state.hypotheses) refl reached
 
 -- ---- of calls
 
-pub keeping_ranked_call : (from : Node) (kind : RankingKind) (parts : RuleParts) (tried : Tried Next) (found : Trial)
+pub keeping_ranked_call : (from : Node) (kind : RankingKind) (parts : RuleParts)
+    (tried : Tried Next) (found : Trial)
     (node : Node) → IsTried from tried found
     → found.node ≡ Some node → (result : Result Trial NoMemory)
     → IfOk result (λ t. t ≡ if_ranked (ranked kind parts node.state.hypotheses) node found.noted)
@@ -169,7 +177,8 @@ keeping_ranked_call from kind parts tried found node is leads (Ok t) same =
     (keeping_ranked from kind parts tried found node is leads)
 keeping_ranked_call from kind parts tried found node is leads (Err e) same = tt
 
-pub node_ranked_call : (kind : RankingKind) (parts : RuleParts) (goal : Equation) (node : Node) (noted : Bool) →
+pub node_ranked_call : (kind : RankingKind) (parts : RuleParts) (goal : Equation) (node : Node)
+    (noted : Bool) →
     IsReached parts goal node
     → (result : Result Trial NoMemory) → IfOk result
     (λ t. t ≡ if_ranked (ranked kind parts node.state.hypotheses) node noted)

@@ -1,7 +1,7 @@
 -- Where a search begins: over the rules as they are, where they have ranks; else inside the domains
--- that are found for the goal, where the rules with these are coverable and have ranks. Where that
--- is nowhere, and nothing passed the limits on the way, inside the wider domains, if there are some:
--- there it is the wider ranking that finds ranks.
+-- that are found for the goal, where the rules with these are coverable and have ranks; and where
+-- that is nowhere, and nothing passed the limits on the way, inside the wider domains, if there are
+-- some: the wider ranking finds ranks there.
 use Rattle.std.specs.Prelude.{if◌then◌else◌, Bool, true, false, Option, Some, None, List, []}
 use Rattle.rx_row.specs.declared.row.Row.{Row}
 use Rattle.rx_cert.specs.Findings.{Said, Yes, No, Beyond}
@@ -15,8 +15,8 @@ use Rattle.rx_term.specs.declared.rule.Equation.{Equation}
 use Rattle.rx_term.specs.declared.rule_set.RuleParts.{RuleParts}
 use Rattle.rx_wider_domains.specs.Finding.{wider_domains}
 
--- over the rules, inside these domains if there are some, with rankings of this kind; or nowhere, as
--- no set has ranks and a cover, and whether something passed the limits on the way to the ranks
+-- over the rules, inside these domains if there are some, with rankings of this kind; or nowhere,
+-- as no set has ranks and a cover, and whether something passed the limits on the way to the ranks
 pub data Beginning : Type 0 where
   Over : RankingKind → Option (List (List Row)) → Beginning
   Unranked : Bool → Beginning

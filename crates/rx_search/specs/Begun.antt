@@ -58,7 +58,7 @@ pub record IsReady (kind : RankingKind) (parts : RuleParts) : Type 0 where
 -- inside the domains the set is ready; and it begins there or nowhere, by whether something was
 -- noted before
 abbrev pub BeginsWith : Inside → Bool → Beginning → Type 0
-BeginsWith inside noted begun.Plain = ⊥
+BeginsWith inside noted begun.Bare = ⊥
 BeginsWith inside noted (begun.Inside other) = (other ≡ inside) × IsReady Plain inside.rules
     × (begun_over inside.rules noted inside.domains.rows ≡ Over Plain (Some inside.domains.rows))
 BeginsWith inside noted (begun.Unranked now) =
@@ -67,7 +67,7 @@ BeginsWith inside noted (begun.Unranked now) =
 -- where it begins is this: over the rules, which have ranks; or inside domains that are found; or
 -- nowhere
 abbrev pub IsBegunAt : beginnings.Beginning → RuleParts → Equation → Beginning → Type 0
-IsBegunAt from parts goal begun.Plain = (from ≡ Over Plain None) × (ranked Plain parts [] ≡ Yes)
+IsBegunAt from parts goal begun.Bare = (from ≡ Over Plain None) × (ranked Plain parts [] ≡ Yes)
 IsBegunAt from parts goal (begun.Inside inside) =
     (from ≡ Over inside.kind (Some inside.domains.rows))
     × IsInside parts goal inside

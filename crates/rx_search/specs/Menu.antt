@@ -59,7 +59,7 @@ abbrev pub if_ranks : RankingKind → RuleParts → Bool → Tried Next → Trie
 if_ranks kind parts keeps tried =
     if keeps
     then then_try tried
-        (λ (next : Next). where_shown (ranked kind parts next.state.hypotheses) next)
+    (λ (next : Next). where_shown (ranked kind parts next.state.hypotheses) next)
     else tried
 
 -- the choice that it is then

@@ -1,5 +1,5 @@
 //! Where a search begins: over the rules, or inside domains that are found for the goal.
-ghost use Rattle.std.specs.Prelude.{◌≡◌, [], IfOk, None};
+ghost use Rattle.std.specs.Prelude.{◌≡◌, [], IfOk, None, false};
 ghost use Rattle.rx_domain.specs.Setting.{bad_domain, with_domains};
 ghost use Rattle.rx_find_cover.specs.Coverable.{is_coverable};
 ghost use Rattle.rx_pairs.specs.Inside.{listing};
@@ -41,7 +41,7 @@ pub struct Inside {
 #[derive(Drop)]
 pub enum Beginning {
     /// Over the rules as they are: these have ranks.
-    Plain,
+    Bare,
     /// Inside the domains that are found, or the wider ones: the rules alone have no ranks, and
     /// inside these domains they have, and are coverable.
     Inside(Inside),
@@ -223,7 +223,7 @@ fn begin_plain<S: FnMut(&Constraint) -> Result<Option<Cert>, FmEnd>>(
 {
     let plain = RankingKind::Plain;
     match has_ranks_with(alloc, plain, rules, listed, &[], memo, solve) {
-        Ok(true) => Ok(Beginning::Plain),
+        Ok(true) => Ok(Beginning::Bare),
         Ok(false) => begin_inside(alloc, rules, goal, false, memo, solve),
         Err(FmEnd::Large) => begin_inside(alloc, rules, goal, true, memo, solve),
         Err(FmEnd::NoMemory) => Err(NoMemory),
@@ -271,7 +271,9 @@ pub fn begin<S: FnMut(&Constraint) -> Result<Option<Cert>, FmEnd>>(
     ensures begun { IfOk result (IsBegun rules.now goal.now) }
 {
     match begin_plain(alloc, rules, listed, goal, memo, solve)? {
+        Beginning::Bare => Ok(Beginning::Bare),
+        Beginning::Inside(inside) => Ok(Beginning::Inside(inside)),
+        Beginning::Unranked { noted: true } => Ok(Beginning::Unranked { noted: true }),
         Beginning::Unranked { noted: false } => begin_wider(alloc, rules, goal, memo, solve),
-        begun => Ok(begun),
     }
 }

@@ -232,9 +232,7 @@ pub fn search_over<S: FnMut(&Constraint) -> Result<Option<Cert>, FmEnd>>(
     ensures ends { IfErr result (λ e. IsEnd depth budget
         (visited space.now.kind space.now.rules.now goal.now depth budget) e) }
 {
-    let outcome = visit_plans(
-        alloc, space, goal, depth, budget, most_kept, memo, solve,
-    )?;
+    let outcome = visit_plans(alloc, space, goal, depth, budget, most_kept, memo, solve)?;
     match outcome {
         Outcome::Closed(node) => {
             let steps = node.steps.as_slice();
@@ -340,9 +338,7 @@ fn search_inside<S: FnMut(&Constraint) -> Result<Option<Cert>, FmEnd>>(
         listed,
         kind: *kind,
     };
-    match search_over(
-        alloc, &space, goal, depth, budget, most_kept, memo, solve,
-    ) {
+    match search_over(alloc, &space, goal, depth, budget, most_kept, memo, solve) {
         Ok(log) => Ok(log_inside(log, inside)),
         Err(end) => Err(dropped(inside, end)),
     }
@@ -379,15 +375,13 @@ pub fn search_with<S: FnMut(&Constraint) -> Result<Option<Cert>, FmEnd>>(
 {
     let begun = begin(alloc, rules, listed, goal, memo, solve)?;
     match begun {
-        Beginning::Plain => {
+        Beginning::Bare => {
             let space = SearchSpace {
                 rules,
                 listed,
                 kind: RankingKind::Plain,
             };
-            search_over(
-                alloc, &space, goal, depth, budget, most_kept, memo, solve,
-            )
+            search_over(alloc, &space, goal, depth, budget, most_kept, memo, solve)
         }
         Beginning::Inside(inside) => search_inside(
             alloc, inside, goal, depth, budget, most_kept, memo, solve,

@@ -46,7 +46,8 @@ module _ (kind : RankingKind) (parts : RuleParts) (tails : List Rule) (goal : Eq
   abbrev come : Outcome nodes.Node (Unit {0})
   come = outcome budget (all_visits (settled parts) (menu kind parts tails) depth first)
 
-  pub node_closed : (o : Found) → seen_outcome node_of o ≡ come → IfClosed (IsNode kind parts goal) o →
+  pub node_closed : (o : Found) → seen_outcome node_of o ≡ come → IfClosed
+      (IsNode kind parts goal) o →
       IfSome (closed_of o) (IsClosedNode kind parts goal)
   node_closed (outcomes.Closed node) seen is = record {
     is = is;
@@ -98,5 +99,6 @@ module _ (kind : RankingKind) (parts : RuleParts) (from goal : Equation) (begun 
         IfClosed (IsNode kind parts from) o → IfSome found (IsClosedNode kind parts from)
     closed_there found e nodes =
         subst (λ (x : Option Node). IfSome x (IsClosedNode kind parts from)) (sym e)
-        (node_closed kind parts tails from depth (min budget spec.most_visits) (node_of start) o seen
+        (node_closed kind parts tails from depth (min budget spec.most_visits)
+        (node_of start) o seen
         nodes)

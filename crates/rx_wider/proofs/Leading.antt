@@ -30,7 +30,8 @@ yes_is No e = absurd cc
 yes_is Beyond e = absurd cc
 
 -- ranks that are found
-pub ranks_are : (kind : RankingKind) (parts : RuleParts) (state : State) → has_ranks kind parts state.hypotheses ≡ true →
+pub ranks_are : (kind : RankingKind) (parts : RuleParts)
+    (state : State) → has_ranks kind parts state.hypotheses ≡ true →
     ranked kind parts state.hypotheses ≡ Yes
 ranks_are kind parts state e = yes_is (ranked kind parts state.hypotheses) e
 
@@ -40,14 +41,16 @@ module _ (kind : RankingKind) (parts : RuleParts) (node : Node) (c : Candidate) 
 
   abbrev led_by : Option State → Option nodes.Node
   led_by o =
-      option_map (node_with (node_of node) moves c.task) (option_and_then (if_fit kind parts c.keeps) o)
+      option_map (node_with (node_of node) moves c.task) (option_and_then
+      (if_fit kind parts c.keeps) o)
 
   abbrev if_so : Bool → State → Option nodes.Node
   if_so b state = option_map (node_with (node_of node) moves c.task)
       (if b then Some state else None)
 
   -- a move doesn't apply
-  pub led_nowhere : after_moves parts node.at.state moves ≡ None → None ≡ led kind parts (node_of node) c
+  pub led_nowhere : after_moves parts node.at.state moves ≡ None → None ≡ led kind parts
+      (node_of node) c
   led_nowhere e = sym (ap led_by e)
 
   module _ (new : State) (steps : List Step)

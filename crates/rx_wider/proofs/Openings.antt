@@ -253,7 +253,8 @@ module _ (kind : RankingKind) (parts : RuleParts) (from goal lemma : Equation) (
 
       module _ (settled : Walked)
           (closes : IsSettledLemma parts walked.state (Some settled)) (next : Begun)
-          (same : next ≡ joined kind parts from goal lemma begun is new posing poses walked expands.0
+          (same : next ≡ joined kind parts from goal lemma begun is new posing poses walked
+          expands.0
           expands.1 settled closes) where
         pub shown_there : Some (opening_of next) ≡ shown kind parts goal (opening_of begun) lemma
         shown_there =

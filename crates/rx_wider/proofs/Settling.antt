@@ -53,7 +53,8 @@ module _ (parts : RuleParts) (node : Node) (new : Tasked) (found : TaskedSteps)
       }
 
   -- and it is a node of the search
-  pub settled_node : (kind : RankingKind) (goal : Equation) (steps : List Step) → steps ≡ node.steps ++ found.steps →
+  pub settled_node : (kind : RankingKind) (goal : Equation)
+      (steps : List Step) → steps ≡ node.steps ++ found.steps →
       new.state.hypotheses ≡ node.at.state.hypotheses → IsNode kind parts goal node →
       IsNode kind parts goal (after steps)
   settled_node kind goal steps same hypotheses old =

@@ -23,4 +23,5 @@ pub returns-clause-begun : goal.returns-clause-begun
 returns-clause-begun g c =
     IfOk-weaker c.begin_with.result _ (IsStatedBegun c.args.rules.now c.args.goal.now)
     (λ b with. begun_is c.args.rules.now c.args.goal.now c.args.noted c.in_ok-inside.inside b
-    c.in_ok-inside.ensures.kind c.in_ok-inside.ensures.inside c.requires.begun with) c.begin_with.ensures.begun
+    c.in_ok-inside.ensures.kind c.in_ok-inside.ensures.inside c.requires.begun with)
+    c.begin_with.ensures.begun

@@ -19,7 +19,8 @@ begin_inside-requires-clause-begun g c =
     (subst (λ b. HasRanksAnswer (ranked Plain c.args.rules.now []) (Ok b))
     c.in-Ok-false.field-0-test c.in-Ok-false.ensures.answer)
 
-pub begin_inside-requires-in-Err-Large-clause-begun : goal.begin_inside-requires-in-Err-Large-clause-begun
+pub begin_inside-requires-in-Err-Large-clause-begun :
+    goal.begin_inside-requires-in-Err-Large-clause-begun
 begin_inside-requires-in-Err-Large-clause-begun g c =
     begins c.args.rules.now c.args.goal.now Beyond
     (c.in-Err-Large.ensures.answer c.in-Err-Large.field-0-is)

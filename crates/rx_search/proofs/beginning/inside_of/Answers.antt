@@ -10,8 +10,9 @@ use Rattle.rx_search.proofs.beginning.inside_of.Goals as goal
 pub returns-in-Ok-clause-inside : goal.returns-in-Ok-clause-inside
 returns-in-Ok-clause-inside c =
     IfOk-weaker c.listed_inside.result _ (IsInside c.args.rules.now c.args.goal.now)
-    (λ inside same. inside_is c.args.kind c.args.rules.now c.args.goal.now c.args.domains c.in-Ok.set
-    inside (c.in-Ok.ensures ∙ ap (with_domains c.args.rules.now) c.as_slice.ensures) same c.requires)
+    (λ inside same. inside_is c.args.kind c.args.rules.now c.args.goal.now c.args.domains
+    c.in-Ok.set inside
+    (c.in-Ok.ensures ∙ ap (with_domains c.args.rules.now) c.as_slice.ensures) same c.requires)
     c.listed_inside.ensures
 
 pub returns-in-Ok-clause-kind : goal.returns-in-Ok-clause-kind

@@ -15,10 +15,10 @@ add_known-requires-clause-right g c =
 pub loop-one-init : goal.loop-one-init
 loop-one-init g c =
     let s = c.args.space.now in record {
-  solver = c.requires.solver;
-  are = no_choices c.args.node.now _ c.new-found.ensures;
-  nodes = λ goal is. no_nodes (IsNode s.kind s.rules.now goal) _ c.new-found.ensures;
-}
+      solver = c.requires.solver;
+      are = no_choices c.args.node.now _ c.new-found.ensures;
+      nodes = λ goal is. no_nodes (IsNode s.kind s.rules.now goal) _ c.new-found.ensures;
+    }
 
 pub loop-one-preserved : goal.loop-one-preserved
 loop-one-preserved g c =

@@ -11,15 +11,15 @@ use Rattle.rx_search.proofs.search.search_over.Goals as goal
 pub log_of-requires-clause-proved : goal.log_of-requires-clause-proved
 log_of-requires-clause-proved g c =
     let s = c.args.space.now in (
-  c.args.goal.now,
-  node_proved s.kind s.rules.now c.args.goal.now c.in-Closed.node c.as_slice-steps.result.now
-      c.hypotheses.result.now
-      (closed_node (IsNode s.kind s.rules.now c.args.goal.now) c.in_ok-outcome.outcome
-      c.in-Closed.node c.in-Closed.is c.in_ok-outcome.ensures.node)
-      (closed_goals s.kind s.rules.now c.args.depth c.args.budget (start c.args.goal.now)
-      c.in_ok-outcome.outcome c.in-Closed.node c.in_ok-outcome.ensures.outcome c.in-Closed.is)
-      c.as_slice-steps.ensures c.hypotheses.ensures,
-)
+      c.args.goal.now,
+      node_proved s.kind s.rules.now c.args.goal.now c.in-Closed.node c.as_slice-steps.result.now
+          c.hypotheses.result.now
+          (closed_node (IsNode s.kind s.rules.now c.args.goal.now) c.in_ok-outcome.outcome
+          c.in-Closed.node c.in-Closed.is c.in_ok-outcome.ensures.node)
+          (closed_goals s.kind s.rules.now c.args.depth c.args.budget (start c.args.goal.now)
+          c.in_ok-outcome.outcome c.in-Closed.node c.in_ok-outcome.ensures.outcome c.in-Closed.is)
+          c.as_slice-steps.ensures c.hypotheses.ensures,
+    )
 
 pub returns-in-Ok-clause-steps : goal.returns-in-Ok-clause-steps
 returns-in-Ok-clause-steps g c =
@@ -49,4 +49,5 @@ returns-in-Ok-clause-columns g c =
     subst (λ (log : Log). HasColumns log.table) (sym c.dropped.ensures) c.in-Ok.ensures.columns
 
 pub returns-in-Ok-clause-bare : goal.returns-in-Ok-clause-bare
-returns-in-Ok-clause-bare g c = ap (λ (log : Log). log.domains) c.dropped.ensures ∙ c.in-Ok.ensures.bare
+returns-in-Ok-clause-bare g c =
+    ap (λ (log : Log). log.domains) c.dropped.ensures ∙ c.in-Ok.ensures.bare
