@@ -1,5 +1,5 @@
 -- Polynomials in the place of others.
-use Rattle.std.proofs.Common.{◌≡◌, ap, refl, arith, inl, inr, ℕ, zero, suc, ◌+◌, ◌⊎◌, Option, Some, None, List, [], ◌∷◌, ◌++◌, length}
+use Rattle.std.proofs.Common.{◌≡◌, ap, refl, arith, inl, inr, ℕ, zero, suc, ◌⊎◌, Option, Some, None, List, [], ◌∷◌, ◌++◌, length}
 use Rattle.rx_poly.specs.declared.body.Body.{Body}
 use Rattle.rx_anchors.specs.Values.{polynomial_of}
 use Rattle.rx_find_ranks.specs.Columns.{laid_at, overlaid}

@@ -11,14 +11,14 @@ use Rattle.rx_pairs.proofs.InsideLaws.{whole_listed}
 use Rattle.rx_pairs.proofs.LoopLaws.{all_within}
 use Rattle.rx_pairs.proofs.PairsLaws.{made_roots}
 use Rattle.rx_pairs.specs.Graph.{edges_of}
-use Rattle.rx_pairs.specs.Inside.{bounded, descends_in, descent_in, listing}
+use Rattle.rx_pairs.specs.Inside.{bounded, descent_in, listing}
 use Rattle.rx_pairs.specs.Lowering.{Descends}
-use Rattle.rx_pairs.specs.Pairs.{AreAllPairs, HasRoot, SidesFit}
+use Rattle.rx_pairs.specs.Pairs.{HasRoot, SidesFit}
 use Rattle.rx_pairs.specs.Ranks.{bad_rank}
 use Rattle.rx_pairs.specs.declared.listing.Listing.{Listing}
 use Rattle.rx_pairs.specs.declared.pair.Pair.{Pair}
 use Rattle.rx_pairs.specs.declared.table.RankTable.{RankTable}
-use Rattle.rx_solve.specs.Attempts.{Tried, beyond}
+use Rattle.rx_solve.specs.Attempts.{beyond}
 use Rattle.rx_rank.specs.Ranking.{ranking, ranking_from, ranking_of}
 use Rattle.rx_find_ranks.specs.Found.{HasColumns, LowersAll}
 use Rattle.rx_find_ranks.specs.Rounds.{IsBegun, IsLonger, IsRanked}
