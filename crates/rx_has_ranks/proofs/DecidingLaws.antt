@@ -144,7 +144,7 @@ module _ (kind : RankingKind) (parts : RuleParts) (hypotheses : List Rule) where
       pub all_ranked : ranking_from kind lent hypotheses 7 (first ++ more.pairs) ≡
           ranking kind parts hypotheses
       all_ranked =
-          ap (λ (ps : RuleParts). ranking_from ps hypotheses 7 (first ++ more.pairs)) same
+          ap (λ (ps : RuleParts). ranking_from kind ps hypotheses 7 (first ++ more.pairs)) same
           ∙ is_whole (record { pairs = first ++ more.pairs; whole = more.whole }) e
           ∙ ap (ranking_of kind parts hypotheses) all_is
 
