@@ -36,8 +36,9 @@ fn candidate_lists(
     Ok(lists)
 }
 
-/// The lists, but for the rows that aren't kept.
-fn settle_rows<S: FnMut(&Constraint) -> Result<Option<Cert>, FmEnd>>(
+/// The rows that `settled_domains` keeps of these lists, without the certificates. Fails only where
+/// there is no memory.
+pub fn settle_rows<S: FnMut(&Constraint) -> Result<Option<Cert>, FmEnd>>(
     alloc: Global,
     rules: &RuleSet,
     goal: &Equation,

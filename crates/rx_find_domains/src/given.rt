@@ -37,8 +37,8 @@ pub(crate) fn rule_given(alloc: Global, rule: &Rule) -> Result<Given, NoMemory>
     })
 }
 
-/// The list of the symbol, borrowed; empty where there is none.
-pub(crate) fn rows_of(lists: &[Constraint], sym: Sym) -> &[Row]
+/// The list of the symbol, borrowed; empty where there is none. Takes no memory.
+pub fn rows_of(lists: &[Constraint], sym: Sym) -> &[Row]
     ensures { result.now ≡ list_of lists.now sym.0 }
 {
     match lists.get(sym.0 as usize) {

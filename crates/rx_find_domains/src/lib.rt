@@ -10,8 +10,10 @@ mod keeps;
 mod passes;
 mod staying;
 
-pub use finding::{find_domains, settled_domains};
+pub use finding::{find_domains, settle_rows, settled_domains};
+pub use given::rows_of;
 pub use groups::{find_groups, in_one_group};
 pub use rx_domain::Domains;
 pub use rx_fm::FmEnd;
 pub use rx_plain::NoMemory;
+pub use staying::{drop_row, put_rows};

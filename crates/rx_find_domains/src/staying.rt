@@ -68,8 +68,8 @@ fn others(alloc: Global, rows: &[Row], row: &Row) -> Result<Constraint, NoMemory
     Ok(left)
 }
 
-/// Sets the list of the symbol, where there is one.
-fn put(lists: &mut Vec<Constraint>, sym: Sym, rows: Constraint)
+/// Sets the list of the symbol, where there is one. Takes no memory.
+pub fn put_rows(lists: &mut Vec<Constraint>, sym: Sym, rows: Constraint)
     ensures { lists.new.items ≡ slice_set lists.old.items sym.0 rows }
 {
     let at = sym.0 as usize;
@@ -78,12 +78,17 @@ fn put(lists: &mut Vec<Constraint>, sym: Sym, rows: Constraint)
     }
 }
 
-/// Drops the row from the list of the symbol.
-fn drop_row(alloc: Global, lists: &mut Vec<Constraint>, sym: Sym, row: &Row) -> Result<(), NoMemory>
+/// Drops the row from the list of the symbol. Fails only where there is no memory.
+pub fn drop_row(
+    alloc: Global,
+    lists: &mut Vec<Constraint>,
+    sym: Sym,
+    row: &Row,
+) -> Result<(), NoMemory>
     ensures { OnOk result (lists.new.items ≡ without lists.old.items sym.0 row.now) }
 {
     let left = others(alloc, rows_of(lists.as_slice(), sym), row)?;
-    put(lists, sym, left);
+    put_rows(lists, sym, left);
     Ok(())
 }
 

@@ -1,0 +1,2 @@
+-- Lemmas on the definitions of specs/.
+pub mod TakenLaws

@@ -1,0 +1,10 @@
+-- What is left of the rules decides.
+use Rattle.std.proofs.Common.{◌≡◌, drop}
+use Rattle.std.specs.List.{fold}
+use Rattle.rx_wider_domains.specs.Lists.{with_rule}
+use Rattle.rx_wider_domains.proofs.listing.take_rules.Given as goal
+
+abbrev pub invariant-loop-rule : goal.invariant-loop-rule
+invariant-loop-rule l =
+    fold (with_rule l.names) l.lists.items (drop l.rule-index l.rules)
+    ≡ fold (with_rule l.names) l.fn.lists.items l.rules
