@@ -30,7 +30,7 @@ use Rattle.rx_anchors.specs.declared.members.Members.{Members}
 use Rattle.rx_anchors.specs.Values.{polynomial_of, with_choice, without_polynomials}
 use Rattle.rx_rank.specs.Candidates.{are_noted, candidates_at}
 use Rattle.rx_rank.specs.Choices.{RankChoice, all_choices, first_serving, from_target, hold_with, instance_on, is_ready, next_first, order_by, order_of, pairs_from, plain_choice, raised_by, raised_choices, serving, without}
-use Rattle.rx_rank.specs.Ranking.{Partition, first_fit, fit_by, parted, raisable, stated}
+use Rattle.rx_rank.specs.Ranking.{Partition, first_fit, fit_by, parted, raisable, stated_partition}
 use Rattle.rx_rank.specs.Tries.{and_then, kept_tried, noting}
 use Rattle.rx_rank.specs.declared.fitting.Fit.{Fit}
 use Rattle.rx_rank.specs.declared.kind.RankingKind.{RankingKind}
@@ -151,7 +151,7 @@ pub stated_is : (parts : RuleParts) (hypotheses : List Rule) (names : List ℕ) 
     (made : Members) (infos : List SymInfo) → infos ≡ parts.symbols →
     made.anchors.items ≡ filter (is_anchor infos hypotheses) (members names c) →
     made.others.items ≡ filter (λ f. not (is_anchor infos hypotheses f)) (members names c) →
-    partition_of made ≡ stated parts hypotheses names c
+    partition_of made ≡ stated_partition parts hypotheses names c
 stated_is parts hypotheses names c made infos same anchors others =
     let first : made.anchors.items ≡ filter (is_anchor parts.symbols hypotheses) (members names c) =
     anchors ∙ ap (λ s. filter (is_anchor s hypotheses) (members names c)) same in

@@ -1,5 +1,5 @@
 -- The candidates of one row more.
-use Rattle.std.proofs.Common.{◌≡◌, ◌∙◌, ◌+◌, ap, sym, drop, drop_of_length-le}
+use Rattle.std.proofs.Common.{◌∙◌, ◌+◌, ap, sym, drop, drop_of_length-le}
 use Rattle.std.specs.List.{flat_map, fold}
 use Rattle.rx_term.proofs.Places.{at_some, from_place}
 use Rattle.rx_rank.specs.Candidates.{own_by, with_candidate}

@@ -3,8 +3,8 @@ use Rattle.std.proofs.Common.{◌≡◌, ◌∙◌, ap, map, subst, sym}
 use Rattle.std.specs.Result.{IfOk}
 use Rattle.rx_anchors.specs.Members.{is_anchor}
 use Rattle.rx_solve.specs.Attempts.{first_applying}
-use Rattle.rx_rank.specs.Answers.{AreOf, pairs_at, partition_of, still_open, tried_as}
-use Rattle.rx_rank.specs.Ranking.{exchanges, fit_by, fit_exchanged, most_choices, or_exchanged, stated}
+use Rattle.rx_rank.specs.Answers.{AreOf, pairs_at, still_open, tried_as}
+use Rattle.rx_rank.specs.Ranking.{exchanges, fit_by, fit_exchanged, most_choices, or_exchanged}
 use Rattle.rx_rank.proofs.ComponentLaws.{parted_members, stated_is}
 use Rattle.rx_rank.proofs.component.fit_component.Goals as goal
 

@@ -1,5 +1,5 @@
 -- The exchange of the anchor at hand, or one of a later one.
-use Rattle.std.proofs.Common.{◌≡◌, ◌∙◌, ◌<◌, ◌≤◌, ◌-◌, ◌+◌, ap, sym, subst, length, Some, List, ℕ, drop, get_or, slice_get}
+use Rattle.std.proofs.Common.{◌∙◌, ◌<◌, ◌≤◌, ◌-◌, ◌+◌, sym, subst, length, Some, List, ℕ, drop, get_or, slice_get}
 use Rattle.rx_rank.specs.Ranking.{all_exchanges}
 use Rattle.rx_rank.proofs.Exchanging.{exchange_here, exchange_later}
 use Rattle.rx_rank.proofs.exchange.exchange_at.Goals as goal

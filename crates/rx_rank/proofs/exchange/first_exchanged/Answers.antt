@@ -1,9 +1,8 @@
 -- What comes of the exchange at hand is that of one of them.
 use Rattle.std.proofs.Common.{◌≡◌, ◌∙◌, ◌<◌, ◌≤◌, ap, sym, arith, List, None, Some, slice_get}
 use Rattle.rx_pairs.specs.declared.pair.Pair.{Pair}
-use Rattle.rx_solve.specs.Attempts.{Tried}
 use Rattle.rx_rank.specs.Answers.{pairs_at, still_open}
-use Rattle.rx_rank.specs.Ranking.{all_exchanges, exchanges, fit_exchanged, most_exchanges, stated}
+use Rattle.rx_rank.specs.Ranking.{all_exchanges, exchanges, fit_exchanged, most_exchanges, stated_partition}
 use Rattle.rx_rank.specs.declared.exchange.Exchange.{Exchange}
 use Rattle.rx_rank.specs.declared.fitting.Fit.{Fit}
 use Rattle.rx_rank.proofs.Choosing.{choice_fits, first_of, later_choices, no_choice, taken_past, taken_place}
@@ -13,7 +12,7 @@ pub returns-in-None-clause-tried : goal.returns-in-None-clause-tried
 returns-in-None-clause-tried g c =
     let k = c.args.component.now in
     let all = exchanges k.parts.now k.hypotheses.now k.names.now k.name in
-    let whole = all_exchanges (stated k.parts.now k.hypotheses.now k.names.now k.name) in
+    let whole = all_exchanges (stated_partition k.parts.now k.hypotheses.now k.names.now k.name) in
     let try_it = fit_exchanged k.kind k.parts.now k.hypotheses.now k.names.now k.name
     (pairs_at k.pairs.now) in
     let at = c.loop-number.number in
@@ -29,7 +28,7 @@ pub returns-clause-tried : goal.returns-clause-tried
 returns-clause-tried g c =
     let k = c.args.component.now in
     let all = exchanges k.parts.now k.hypotheses.now k.names.now k.name in
-    let whole = all_exchanges (stated k.parts.now k.hypotheses.now k.names.now k.name) in
+    let whole = all_exchanges (stated_partition k.parts.now k.hypotheses.now k.names.now k.name) in
     let try_it = fit_exchanged k.kind k.parts.now k.hypotheses.now k.names.now k.name
     (pairs_at k.pairs.now) in
     let at = c.loop-number.number in
@@ -41,7 +40,7 @@ pub returns-then-is_some-clause-tried : goal.returns-then-is_some-clause-tried
 returns-then-is_some-clause-tried g c =
     let k = c.args.component.now in
     let all = exchanges k.parts.now k.hypotheses.now k.names.now k.name in
-    let whole = all_exchanges (stated k.parts.now k.hypotheses.now k.names.now k.name) in
+    let whole = all_exchanges (stated_partition k.parts.now k.hypotheses.now k.names.now k.name) in
     let pairs = pairs_at k.pairs.now in
     let try_it = fit_exchanged k.kind k.parts.now k.hypotheses.now k.names.now k.name pairs in
     let at = c.loop-number.number in
@@ -61,7 +60,7 @@ pub loop-number-preserved : goal.loop-number-preserved
 loop-number-preserved g c =
     let k = c.args.component.now in
     let all = exchanges k.parts.now k.hypotheses.now k.names.now k.name in
-    let whole = all_exchanges (stated k.parts.now k.hypotheses.now k.names.now k.name) in
+    let whole = all_exchanges (stated_partition k.parts.now k.hypotheses.now k.names.now k.name) in
     let pairs = pairs_at k.pairs.now in
     let try_it = fit_exchanged k.kind k.parts.now k.hypotheses.now k.names.now k.name pairs in
     let at = c.loop-number.number in
