@@ -1,10 +1,11 @@
-//! Which integers the values of C's `int` are.
+//! Which results of arithmetic operators are values.
 
-/// Which integers the values of `int` are.
+/// Which results of arithmetic operators are values. Literals and arguments are what they are, by
+/// either.
 #[derive(Clone, Copy, Debug, PartialEq, Eq)]
 pub enum Integers {
-    /// The mathematical integers.
+    /// All: the mathematical integers.
     Unbounded,
-    /// Those of 32 bits: -2147483648 to 2147483647.
+    /// Those that a 32-bit `int` has: -2147483648 to 2147483647.
     Bits32,
 }

@@ -1,7 +1,7 @@
 //! Trees of the C subset: expressions, statements, functions and programs, with their heights and
 //! exact copies, the functions that they call, which functions are straight, which expressions may
-//! be preconditions, and when a resolved program's slots and calls are in order. And the two kinds
-//! of integers that the values of a program may be.
+//! be preconditions, and when a resolved program's slots and calls are in order. And two kinds of
+//! integers: which results of arithmetic operators are values.
 //!
 //! Contracts see each tree as plain data, so that `≡` compares trees. What a `u32` names is the
 //! reader's affair: in a program as it was read it is the number of a token, and in a resolved one

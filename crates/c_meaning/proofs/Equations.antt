@@ -32,7 +32,8 @@ module _ (integers : Integers) where
       in_state (fold_out-Expr Evaluation (expr_level integers calls) (Lit k) ∙ rw (outs-Lit k) refl)
 
   -- a variable
-  pub expr-Var : (calls : Calls) (v : ℕ) (s : State) → expr integers calls (Var v) s ≡ Value (slot s v)
+  pub expr-Var : (calls : Calls) (v : ℕ) (s : State) → expr integers calls (Var v) s ≡
+      Value (slot s v)
   expr-Var calls v =
       in_state (fold_out-Expr Evaluation (expr_level integers calls) (Var v) ∙ rw (outs-Var v) refl)
 
@@ -40,11 +41,13 @@ module _ (integers : Integers) where
   pub expr-Unary : (calls : Calls) (op : UnOp) (a : Expr) (s : State)
       → expr integers calls (Unary op a) s ≡ on_value (expr integers calls a s) (unary integers op)
   expr-Unary calls op a =
-      in_state (fold_out-Expr Evaluation (expr_level integers calls) (Unary op a) ∙ rw (outs-Unary op a) refl)
+      in_state (fold_out-Expr Evaluation (expr_level integers calls) (Unary op a) ∙
+      rw (outs-Unary op a) refl)
 
   -- an operator between two operands
   pub expr-Binary : (calls : Calls) (op : BinOp) (a b : Expr) (s : State)
-      → expr integers calls (Binary op a b) s ≡ binary integers op (expr integers calls a s) (expr integers calls b s)
+      → expr integers calls (Binary op a b) s ≡
+      binary integers op (expr integers calls a s) (expr integers calls b s)
   expr-Binary calls op a b =
       in_state (fold_out-Expr Evaluation (expr_level integers calls) (Binary op a b) ∙
       rw (outs-Binary op a b) refl)
@@ -59,15 +62,18 @@ module _ (integers : Integers) where
 
   -- a call
   pub expr-Apply : (calls : Calls) (f : ℕ) (arguments : List Expr) (s : State)
-      → expr integers calls (Apply f arguments) s ≡ on_value (values (map (expr integers calls) arguments) s) (calls f)
+      → expr integers calls (Apply f arguments) s ≡
+      on_value (values (map (expr integers calls) arguments) s) (calls f)
   expr-Apply calls f arguments =
       in_state (fold_out-Expr Evaluation (expr_level integers calls) (Apply f arguments) ∙
       rw (outs-Apply f arguments) refl)
 
   -- the null statement
-  pub stmt-Empty : (rounds : Rounds) (s : State) → stmt integers Syntax.Empty rounds s ≡ Value (Next s)
+  pub stmt-Empty : (rounds : Rounds) (s : State) → stmt integers Syntax.Empty rounds s ≡
+      Value (Next s)
   stmt-Empty =
-      from_state (fold_out-Stmt Execution (stmt_level integers) Syntax.Empty ∙ rw Syntax.outs-Empty refl)
+      from_state (fold_out-Stmt Execution (stmt_level integers) Syntax.Empty ∙
+      rw Syntax.outs-Empty refl)
 
   -- a declaration
   pub stmt-Declare-None : (k : ℕ) (rounds : Rounds) (s : State) →
@@ -85,7 +91,8 @@ module _ (integers : Integers) where
 
   -- an assignment
   pub stmt-Assign : (k : ℕ) (e : Expr) (rounds : Rounds) (s : State)
-      → stmt integers (Syntax.Assign k e) rounds s ≡ on_value (expr integers (calls_with rounds) e s)
+      → stmt integers (Syntax.Assign k e) rounds s ≡
+      on_value (expr integers (calls_with rounds) e s)
       (λ x. Value (Next (slice_set s k x)))
   stmt-Assign k e =
       from_state (fold_out-Stmt Execution (stmt_level integers) (Syntax.Assign k e) ∙
@@ -110,7 +117,8 @@ module _ (integers : Integers) where
 
   -- `while`
   pub stmt-While : (e : Expr) (body : Stmt) (rounds : Rounds) (s : State)
-      → stmt integers (Syntax.While e body) rounds s ≡ loop (while_turn integers (Some e) (optional None) (stmt integers body))
+      → stmt integers (Syntax.While e body) rounds s ≡
+      loop (while_turn integers (Some e) (optional None) (stmt integers body))
       rounds s
   stmt-While e body =
       from_state (fold_out-Stmt Execution (stmt_level integers) (Syntax.While e body) ∙
@@ -118,7 +126,8 @@ module _ (integers : Integers) where
 
   -- `do`
   pub stmt-DoWhile : (body : Stmt) (e : Expr) (rounds : Rounds) (s : State)
-      → stmt integers (Syntax.DoWhile body e) rounds s ≡ loop (do_turn integers e (stmt integers body)) rounds s
+      → stmt integers (Syntax.DoWhile body e) rounds s ≡
+      loop (do_turn integers e (stmt integers body)) rounds s
   stmt-DoWhile body e =
       from_state (fold_out-Stmt Execution (stmt_level integers) (Syntax.DoWhile body e) ∙
       rw (Syntax.outs-DoWhile body e) refl)
@@ -128,22 +137,27 @@ module _ (integers : Integers) where
       (s : State)
       → stmt integers (Syntax.For first test None body) rounds s
       ≡ on_value (on_value (in_order (map (stmt integers) first) rounds s)
-      (on_next (loop (while_turn integers test (optional None) (stmt integers body)) rounds))) (leave (length s))
+      (on_next (loop (while_turn integers test (optional None) (stmt integers body)) rounds)))
+      (leave (length s))
   stmt-For-None first test body =
       from_state (fold_out-Stmt Execution (stmt_level integers) (Syntax.For first test None body) ∙
       rw (Syntax.outs-For first test None body) refl)
 
-  pub stmt-For-Some : (first : List Stmt) (test : Option Expr) (change body : Stmt) (rounds : Rounds)
+  pub stmt-For-Some : (first : List Stmt) (test : Option Expr) (change body : Stmt)
+      (rounds : Rounds)
       (s : State)
       → stmt integers (Syntax.For first test (Some change) body) rounds s
       ≡ on_value (on_value (in_order (map (stmt integers) first) rounds s)
-      (on_next (loop (while_turn integers test (stmt integers change) (stmt integers body)) rounds))) (leave (length s))
+      (on_next (loop (while_turn integers test (stmt integers change) (stmt integers body))
+      rounds))) (leave (length s))
   stmt-For-Some first test change body =
-      from_state (fold_out-Stmt Execution (stmt_level integers) (Syntax.For first test (Some change) body) ∙
+      from_state (fold_out-Stmt Execution (stmt_level integers)
+      (Syntax.For first test (Some change) body) ∙
       rw (Syntax.outs-For first test (Some change) body) refl)
 
   -- the jumps
-  pub stmt-Break : (token : ℕ) (rounds : Rounds) (s : State) → stmt integers (Syntax.Break token) rounds s ≡
+  pub stmt-Break : (token : ℕ) (rounds : Rounds) (s : State) →
+      stmt integers (Syntax.Break token) rounds s ≡
       Value (Break s)
   stmt-Break token =
       from_state (fold_out-Stmt Execution (stmt_level integers) (Syntax.Break token) ∙
@@ -164,7 +178,8 @@ module _ (integers : Integers) where
 
   -- a block
   pub stmt-Block : (inner : List Stmt) (rounds : Rounds) (s : State)
-      → stmt integers (Syntax.Block inner) rounds s ≡ on_value (in_order (map (stmt integers) inner) rounds s)
+      → stmt integers (Syntax.Block inner) rounds s ≡
+      on_value (in_order (map (stmt integers) inner) rounds s)
       (leave (length s))
   stmt-Block inner =
       from_state (fold_out-Stmt Execution (stmt_level integers) (Syntax.Block inner) ∙

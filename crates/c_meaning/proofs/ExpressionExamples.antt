@@ -1,7 +1,7 @@
--- The definitions, run by the mathematical integers on programs of expressions and calls. The values come from an independent
--- second program that runs C by rounds. For most calls there is the least number of rounds with
--- which they have an outcome, and with one round less that more are needed: the test that ends a
--- loop takes a round.
+-- The definitions, run by the mathematical integers on programs of expressions and calls. The
+-- values come from an independent second program that runs C by rounds. For most calls there is the
+-- least number of rounds with which they have an outcome, and with one round less that more are
+-- needed: the test that ends a loop takes a round.
 use Rattle.std.proofs.Common.{◌≡◌, ℕ, ℤ, zero, suc, pos, negsuc, None, List, [], ◌∷◌, refl}
 use Rattle.c_ast.specs.declared.expr.UnOp.TheVariants as Sign
 use Rattle.c_ast.specs.declared.expr.BinOp.TheVariants as Op

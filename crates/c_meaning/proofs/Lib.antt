@@ -5,6 +5,7 @@ pub mod Equations
 pub mod Examples
 mod ExpressionExamples
 pub mod Meaning
+mod Narrowing
 mod RangeExamples
 pub mod Rounds
 pub mod Runs

@@ -220,7 +220,8 @@ module _ (program : Resolved) where
 
     means_values : (ps : List ExprPart) → FromEach
         (values (map (expr calls) (map (λ (p : ExprPart). p.0) ps)))
-        (λ n. expressions.values (map (expressions.expr Unbounded (calls_with (rounds Unbounded program n)))
+        (λ n. expressions.values (map (expressions.expr Unbounded
+        (calls_with (rounds Unbounded program n)))
         (map (λ (p : ExprPart). p.0) ps)))
     means_values [] m n low s = all_left
     means_values (p ∷ ps) m n low s =
@@ -231,7 +232,8 @@ module _ (program : Resolved) where
         (expr_level calls (map-Expr Expr Evaluation (expr calls)
         (map-Expr ExprPart Expr (λ p. p.0) y)) m s)
         (expressions.expr_level Unbounded (calls_with (rounds Unbounded program n))
-        (map-Expr Expr (State → Outcome ℤ) (expressions.expr Unbounded (calls_with (rounds Unbounded program n)))
+        (map-Expr Expr (State → Outcome ℤ) (expressions.expr Unbounded
+        (calls_with (rounds Unbounded program n)))
         (map-Expr ExprPart Expr (λ p. p.0) y)) s)
     expr_level_means (Expr-F.Lit k) m n low s = all_left
     expr_level_means (Expr-F.Var v) m n low s = all_left
@@ -250,13 +252,16 @@ module _ (program : Resolved) where
     expr_step x y is m n low s =
         let c : expressions.Calls = calls_with (rounds Unbounded program n) in
         let opened : Means ℤ m (expr_level calls (map-Expr Expr Evaluation (expr calls) x) m s)
-        (expressions.expr_level Unbounded c (map-Expr Expr (State → Outcome ℤ) (expressions.expr Unbounded c) x) s) =
+        (expressions.expr_level Unbounded c (map-Expr Expr (State → Outcome ℤ)
+        (expressions.expr Unbounded c) x) s) =
         let P : Expr-F Expr → Type 0 = λ z. Means ℤ m
         (expr_level calls (map-Expr Expr Evaluation (expr calls) z) m s)
-        (expressions.expr_level Unbounded c (map-Expr Expr (State → Outcome ℤ) (expressions.expr Unbounded c) z) s) in
+        (expressions.expr_level Unbounded c (map-Expr Expr (State → Outcome ℤ)
+        (expressions.expr Unbounded c) z) s) in
         subst P is (expr_level_means y m n low s) in
         let L : Evaluation → Type 0 = λ e. Means ℤ m (e m s)
-        (expressions.expr_level Unbounded c (map-Expr Expr (State → Outcome ℤ) (expressions.expr Unbounded c) x) s)
+        (expressions.expr_level Unbounded c (map-Expr Expr (State → Outcome ℤ)
+        (expressions.expr Unbounded c) x) s)
         in
         let R : (State → Outcome ℤ) → Type 0 = λ e.
         Means ℤ m (expr calls (roll-Expr x) m s) (e s) in
@@ -289,7 +294,8 @@ module _ (program : Resolved) where
     -- and of a `do`
     do_turn_means : (e : Expr) (body : Execution) (second : statements.Execution) →
         FromEach body (λ n. second (rounds Unbounded program n))
-        → FromEach (do_turn calls e body) (λ n. statements.do_turn Unbounded e second (rounds Unbounded program n))
+        → FromEach (do_turn calls e body) (λ n. statements.do_turn Unbounded e second
+        (rounds Unbounded program n))
     do_turn_means e body second bodies m n low s =
         means_on_value (bodies m n low s) (λ flow k under. means_after_body _ _ flow (λ t.
         means_on_value (expr_means e k n (omega arith) t)
@@ -310,18 +316,21 @@ module _ (program : Resolved) where
         means_on_value (p.1 m n low s) (λ flow k under.
         means_on_next _ _ flow (λ t. in_order_parts ps k n (omega arith) t))
 
-    nothing_means : FromEach (optional None) (λ n. statements.optional None (rounds Unbounded program n))
+    nothing_means : FromEach (optional None) (λ n. statements.optional None
+        (rounds Unbounded program n))
     nothing_means m n low s = all_left
 
     for_means : (ps : List StmtPart) (run : ℕ → State → Run Turn)
-        (outcome : Rounds → State → Outcome Turn) → FromEach run (λ n. outcome (rounds Unbounded program n))
+        (outcome : Rounds → State → Outcome Turn) →
+        FromEach run (λ n. outcome (rounds Unbounded program n))
         → (count m n : ℕ) → m ≤ n → (s : State) → Means Flow m
         (on_value (on_value (in_order (map (stmt calls) (map (λ (p : StmtPart). p.0) ps)) m s)
         (on_next (loop run))) (leave count))
         (outcomes.on_value (outcomes.on_value
         (statements.in_order (map (statements.stmt Unbounded) (map (λ (p : StmtPart). p.0) ps))
         (rounds Unbounded program n) s)
-        (statements.on_next (statements.loop outcome (rounds Unbounded program n)))) (statements.leave count))
+        (statements.on_next (statements.loop outcome (rounds Unbounded program n))))
+        (statements.leave count))
     for_means ps run outcome each count m n low s =
         means_on_value (means_on_value (in_order_parts ps m n low s)
         (λ flow k under. means_on_next _ _ flow
@@ -331,7 +340,8 @@ module _ (program : Resolved) where
     stmt_level_means : (y : Stmt-F StmtPart) → FromEach
         (stmt_level calls (map-Stmt Stmt Execution (stmt calls)
         (map-Stmt StmtPart Stmt (λ p. p.0) y)))
-        (λ n. statements.stmt_level Unbounded (map-Stmt Stmt statements.Execution (statements.stmt Unbounded)
+        (λ n. statements.stmt_level Unbounded (map-Stmt Stmt statements.Execution
+        (statements.stmt Unbounded)
         (map-Stmt StmtPart Stmt (λ p. p.0) y)) (rounds Unbounded program n))
     stmt_level_means Stmt-F.Empty m n low s = all_left
     stmt_level_means (Stmt-F.Declare k None) m n low s = all_left
@@ -350,12 +360,14 @@ module _ (program : Resolved) where
         means_loop _ _ (while_turn_means (Some e) (optional None) (stmt calls p.0)
         (statements.optional None) (statements.stmt Unbounded p.0) nothing_means p.1) m n low s
     stmt_level_means (Stmt-F.DoWhile p e) m n low s =
-        means_loop _ _ (do_turn_means e (stmt calls p.0) (statements.stmt Unbounded p.0) p.1) m n low s
+        means_loop _ _ (do_turn_means e (stmt calls p.0) (statements.stmt Unbounded p.0) p.1) m n
+        low s
     stmt_level_means (Stmt-F.For ps test None p) m n low s = for_means ps _ _
         (while_turn_means test (optional None) (stmt calls p.0) (statements.optional None)
         (statements.stmt Unbounded p.0) nothing_means p.1) (length s) m n low s
     stmt_level_means (Stmt-F.For ps test (Some change) p) m n low s = for_means ps _ _
-        (while_turn_means test (stmt calls change.0) (stmt calls p.0) (statements.stmt Unbounded change.0)
+        (while_turn_means test (stmt calls change.0) (stmt calls p.0)
+        (statements.stmt Unbounded change.0)
         (statements.stmt Unbounded p.0) change.1 p.1) (length s) m n low s
     stmt_level_means (Stmt-F.Break token) m n low s = all_left
     stmt_level_means (Stmt-F.Continue token) m n low s = all_left
@@ -368,15 +380,18 @@ module _ (program : Resolved) where
         StmtMeans (roll-Stmt x)
     stmt_step x y is m n low s =
         let opened : Means Flow m (stmt_level calls (map-Stmt Stmt Execution (stmt calls) x) m s)
-        (statements.stmt_level Unbounded (map-Stmt Stmt statements.Execution (statements.stmt Unbounded) x)
+        (statements.stmt_level Unbounded (map-Stmt Stmt statements.Execution
+        (statements.stmt Unbounded) x)
         (rounds Unbounded program n) s) =
         let P : Stmt-F Stmt → Type 0 = λ z. Means Flow m
         (stmt_level calls (map-Stmt Stmt Execution (stmt calls) z) m s)
-        (statements.stmt_level Unbounded (map-Stmt Stmt statements.Execution (statements.stmt Unbounded) z)
+        (statements.stmt_level Unbounded (map-Stmt Stmt statements.Execution
+        (statements.stmt Unbounded) z)
         (rounds Unbounded program n) s) in
         subst P is (stmt_level_means y m n low s) in
         let L : Execution → Type 0 = λ e. Means Flow m (e m s)
-        (statements.stmt_level Unbounded (map-Stmt Stmt statements.Execution (statements.stmt Unbounded) x)
+        (statements.stmt_level Unbounded (map-Stmt Stmt statements.Execution
+        (statements.stmt Unbounded) x)
         (rounds Unbounded program n) s) in
         let R : statements.Execution → Type 0 = λ e.
         Means Flow m (stmt calls (roll-Stmt x) m s) (e (rounds Unbounded program n) s) in
@@ -406,7 +421,8 @@ module _ (program : Resolved) where
 
   -- a call, however deep calls may be nested
   nested_means : (most m n : ℕ) → m ≤ n → (f : ℕ) (arguments : List ℤ)
-      → Means ℤ m (nested_calls program most m f arguments) (call_outcome Unbounded program n f arguments)
+      → Means ℤ m (nested_calls program most m f arguments)
+      (call_outcome Unbounded program n f arguments)
   nested_means zero m n low f arguments = Waits
   nested_means (suc most) zero n low f arguments = Waits
   nested_means (suc most) (suc m) zero low f arguments = absurd (omega arith)

@@ -48,13 +48,19 @@ keeps_if true first second = first
 keeps_if false first second = second
 
 -- operators
-keeps_binary : (integers : Integers) (op : BinOp) {x y u v : Outcome ℤ} → Keeps ℤ x u → Keeps ℤ y v →
+keeps_binary : (integers : Integers) (op : BinOp) {x y u v : Outcome ℤ} → Keeps ℤ x u →
+    Keeps ℤ y v →
     Keeps ℤ (binary integers op x y) (binary integers op u v)
-keeps_binary integers Op.Add left right = keeps_on_value left (λ a. keeps_on_value right (λ b. Same))
-keeps_binary integers Op.Sub left right = keeps_on_value left (λ a. keeps_on_value right (λ b. Same))
-keeps_binary integers Op.Mul left right = keeps_on_value left (λ a. keeps_on_value right (λ b. Same))
-keeps_binary integers Op.Div left right = keeps_on_value left (λ a. keeps_on_value right (λ b. Same))
-keeps_binary integers Op.Rem left right = keeps_on_value left (λ a. keeps_on_value right (λ b. Same))
+keeps_binary integers Op.Add left right =
+    keeps_on_value left (λ a. keeps_on_value right (λ b. Same))
+keeps_binary integers Op.Sub left right =
+    keeps_on_value left (λ a. keeps_on_value right (λ b. Same))
+keeps_binary integers Op.Mul left right =
+    keeps_on_value left (λ a. keeps_on_value right (λ b. Same))
+keeps_binary integers Op.Div left right =
+    keeps_on_value left (λ a. keeps_on_value right (λ b. Same))
+keeps_binary integers Op.Rem left right =
+    keeps_on_value left (λ a. keeps_on_value right (λ b. Same))
 keeps_binary integers Op.Lt left right = keeps_on_value left (λ a. keeps_on_value right (λ b. Same))
 keeps_binary integers Op.Le left right = keeps_on_value left (λ a. keeps_on_value right (λ b. Same))
 keeps_binary integers Op.Gt left right = keeps_on_value left (λ a. keeps_on_value right (λ b. Same))
@@ -91,8 +97,10 @@ module _ (integers : Integers) (c d : Calls) (calls : CallsKeep c d) where
       keeps_on_value (p.1 s) (λ x. keeps_on_value (arguments_kept ps s) (λ xs. Same))
 
   expr_level_kept : (y : Expr-F ExprPart) → EvaluationsKeep
-      (expr_level integers c (map-Expr Expr Evaluation (expr integers c) (map-Expr ExprPart Expr (λ p. p.0) y)))
-      (expr_level integers d (map-Expr Expr Evaluation (expr integers d) (map-Expr ExprPart Expr (λ p. p.0) y)))
+      (expr_level integers c (map-Expr Expr Evaluation (expr integers c)
+      (map-Expr ExprPart Expr (λ p. p.0) y)))
+      (expr_level integers d (map-Expr Expr Evaluation (expr integers d)
+      (map-Expr ExprPart Expr (λ p. p.0) y)))
   expr_level_kept (Expr-F.Lit k) s = Same
   expr_level_kept (Expr-F.Var v) s = Same
   expr_level_kept (Expr-F.Unary op p) s = keeps_on_value (p.1 s) (λ x. Same)
@@ -105,7 +113,8 @@ module _ (integers : Integers) (c d : Calls) (calls : CallsKeep c d) where
   expr_step : (x : Expr-F Expr) (y : Expr-F ExprPart) → map-Expr ExprPart Expr (λ p. p.0) y ≡ x →
       ExprKept (roll-Expr x)
   expr_step x y is =
-      let opened : EvaluationsKeep (expr_level integers c (map-Expr Expr Evaluation (expr integers c) x))
+      let opened : EvaluationsKeep (expr_level integers c
+      (map-Expr Expr Evaluation (expr integers c) x))
       (expr_level integers d (map-Expr Expr Evaluation (expr integers d) x)) =
       let P : Expr-F Expr → Type 0 =
       λ z. EvaluationsKeep (expr_level integers c (map-Expr Expr Evaluation (expr integers c) z))
@@ -174,19 +183,23 @@ module _ (integers : Integers) where
   condition_kept : (test : Option Expr) (r q : Rounds) → Fewer r q → (s : State) →
       Keeps ℤ (condition integers test r s) (condition integers test q s)
   condition_kept None r q fewer s = Same
-  condition_kept (Some e) r q fewer s = expr_kept integers (calls_with r) (calls_with q) (calls_kept fewer) e s
+  condition_kept (Some e) r q fewer s =
+      expr_kept integers (calls_with r) (calls_with q) (calls_kept fewer) e s
 
-  while_turn_kept : (test : Option Expr) (change body : Execution) → IsSteady change → IsSteady body →
+  while_turn_kept : (test : Option Expr) (change body : Execution) → IsSteady change →
+      IsSteady body →
       IsSteadyTurn (while_turn integers test change body)
   while_turn_kept test change body change_steady body_steady r q fewer s =
       keeps_on_value (condition_kept test r q fewer s) (λ x. keeps_if (is_zero x) Same
       (keeps_on_value (body_steady r q fewer s)
       (after_body_kept _ _ (λ t. keeps_on_value (change_steady r q fewer t) (λ flow. Same)))))
 
-  do_turn_kept : (e : Expr) (body : Execution) → IsSteady body → IsSteadyTurn (do_turn integers e body)
+  do_turn_kept : (e : Expr) (body : Execution) → IsSteady body →
+      IsSteadyTurn (do_turn integers e body)
   do_turn_kept e body steady r q fewer s =
       keeps_on_value (steady r q fewer s) (after_body_kept _ _ (λ t.
-      keeps_on_value (expr_kept integers (calls_with r) (calls_with q) (calls_kept fewer) e t) (λ x. Same)))
+      keeps_on_value (expr_kept integers (calls_with r) (calls_with q) (calls_kept fewer) e t)
+      (λ x. Same)))
 
   abbrev StmtPart : Type 0
   StmtPart = (t : Stmt) × IsSteady (stmt integers t)
@@ -210,18 +223,22 @@ module _ (integers : Integers) where
   for_kept ps test change body change_steady body_steady count r q fewer s =
       keeps_on_value
       (keeps_on_value (in_order_parts ps r q fewer s)
-      (on_next_kept _ _ (loop_kept _ (while_turn_kept test change body change_steady body_steady) r q
+      (on_next_kept _ _ (loop_kept _ (while_turn_kept test change body change_steady body_steady) r
+      q
       fewer)))
       (λ flow. Same)
 
   stmt_level_kept : (y : Stmt-F StmtPart) → IsSteady
-      (stmt_level integers (map-Stmt Stmt Execution (stmt integers) (map-Stmt StmtPart Stmt (λ p. p.0) y)))
+      (stmt_level integers (map-Stmt Stmt Execution (stmt integers)
+      (map-Stmt StmtPart Stmt (λ p. p.0) y)))
   stmt_level_kept Stmt-F.Empty r q fewer s = Same
   stmt_level_kept (Stmt-F.Declare k None) r q fewer s = Same
   stmt_level_kept (Stmt-F.Declare k (Some e)) r q fewer s =
-      keeps_on_value (expr_kept integers (calls_with r) (calls_with q) (calls_kept fewer) e s) (λ x. Same)
+      keeps_on_value (expr_kept integers (calls_with r) (calls_with q) (calls_kept fewer) e s)
+      (λ x. Same)
   stmt_level_kept (Stmt-F.Assign k e) r q fewer s =
-      keeps_on_value (expr_kept integers (calls_with r) (calls_with q) (calls_kept fewer) e s) (λ x. Same)
+      keeps_on_value (expr_kept integers (calls_with r) (calls_with q) (calls_kept fewer) e s)
+      (λ x. Same)
   stmt_level_kept (Stmt-F.If e p None) r q fewer s =
       keeps_on_value (expr_kept integers (calls_with r) (calls_with q) (calls_kept fewer) e s)
       (λ x. keeps_if (is_zero x) Same (p.1 r q fewer s))
@@ -238,16 +255,19 @@ module _ (integers : Integers) where
   stmt_level_kept (Stmt-F.Break token) r q fewer s = Same
   stmt_level_kept (Stmt-F.Continue token) r q fewer s = Same
   stmt_level_kept (Stmt-F.Return e) r q fewer s =
-      keeps_on_value (expr_kept integers (calls_with r) (calls_with q) (calls_kept fewer) e s) (λ x. Same)
+      keeps_on_value (expr_kept integers (calls_with r) (calls_with q) (calls_kept fewer) e s)
+      (λ x. Same)
   stmt_level_kept (Stmt-F.Block ps) r q fewer s =
       keeps_on_value (in_order_parts ps r q fewer s) (λ flow. Same)
 
   stmt_step : (x : Stmt-F Stmt) (y : Stmt-F StmtPart) → map-Stmt StmtPart Stmt (λ p. p.0) y ≡ x →
       IsSteady (stmt integers (roll-Stmt x))
   stmt_step x y is =
-      let P : Stmt-F Stmt → Type 0 = λ z. IsSteady (stmt_level integers (map-Stmt Stmt Execution (stmt integers) z)) in
+      let P : Stmt-F Stmt → Type 0 = λ z. IsSteady
+      (stmt_level integers (map-Stmt Stmt Execution (stmt integers) z)) in
       let Q : Execution → Type 0 = λ m. IsSteady m in
-      subst Q (sym (fold-roll-Stmt Execution (stmt_level integers) x)) (subst P is (stmt_level_kept y))
+      subst Q (sym (fold-roll-Stmt Execution (stmt_level integers) x))
+      (subst P is (stmt_level_kept y))
 
   -- more rounds keep a statement's outcome
   pub stmt_kept : (t : Stmt) → IsSteady (stmt integers t)
@@ -260,7 +280,8 @@ module _ (integers : Integers) where
       keeps_on_value (stmt_kept t r q fewer s) (on_next_kept _ _ (in_order_kept ts r q fewer))
 
   body_kept : (function : Option Function) (r q : Rounds) → Fewer r q → (arguments : List ℤ) →
-      Keeps ℤ (body_outcome integers function r arguments) (body_outcome integers function q arguments)
+      Keeps ℤ (body_outcome integers function r arguments)
+      (body_outcome integers function q arguments)
   body_kept None r q fewer arguments = Same
   body_kept (Some function) r q fewer arguments =
       keeps_on_value (in_order_kept function.body r q fewer arguments) (λ flow. Same)
@@ -288,22 +309,28 @@ module _ (integers : Integers) where
   -- the outcomes of an expression do
   pub expr_stays : (program : Resolved) (e : Expr) (s : State) (m n : ℕ) → m ≤ n →
       IsAnswer (expr integers (calls_with (rounds integers program m)) e s)
-      → expr integers (calls_with (rounds integers program n)) e s ≡ expr integers (calls_with (rounds integers program m)) e s
+      → expr integers (calls_with (rounds integers program n)) e s ≡
+      expr integers (calls_with (rounds integers program m)) e s
   expr_stays program e s m n below answer =
-      kept_answer (expr_kept integers (calls_with (rounds integers program m)) (calls_with (rounds integers program n))
+      kept_answer (expr_kept integers (calls_with (rounds integers program m))
+      (calls_with (rounds integers program n))
       (calls_kept (fewer_rounds program m n below)) e s) answer
 
   -- the outcomes of a statement do
   pub stmt_stays : (program : Resolved) (t : Stmt) (s : State) (m n : ℕ) → m ≤ n →
       IsAnswer (stmt integers t (rounds integers program m) s)
-      → stmt integers t (rounds integers program n) s ≡ stmt integers t (rounds integers program m) s
+      → stmt integers t (rounds integers program n) s ≡
+      stmt integers t (rounds integers program m) s
   stmt_stays program t s m n below answer =
-      kept_answer (stmt_kept t (rounds integers program m) (rounds integers program n) (fewer_rounds program m n below)
+      kept_answer (stmt_kept t (rounds integers program m) (rounds integers program n)
+      (fewer_rounds program m n below)
       s) answer
 
   -- two answers of one call with some rounds are the same
-  same_answer : (program : Resolved) (f : ℕ) (arguments : List ℤ) (m n : ℕ) (r q : Outcome ℤ) → m ≤ n
-      → call_outcome integers program m f arguments ≡ r → IsAnswer r → call_outcome integers program n f arguments ≡ q →
+  same_answer : (program : Resolved) (f : ℕ) (arguments : List ℤ) (m n : ℕ) (r q : Outcome ℤ) →
+      m ≤ n
+      → call_outcome integers program m f arguments ≡ r → IsAnswer r →
+      call_outcome integers program n f arguments ≡ q →
       q ≡ r
   same_answer program f arguments m n r q below first answer second =
       let answered : IsAnswer (call_outcome integers program m f arguments) =

@@ -1,7 +1,7 @@
--- The definitions, run by the mathematical integers on programs of loops and other statements. The values come from an
--- independent second program that runs C by rounds. For most calls there is the least number of
--- rounds with which they have an outcome, and with one round less that more are needed: the test
--- that ends a loop takes a round.
+-- The definitions, run by the mathematical integers on programs of loops and other statements. The
+-- values come from an independent second program that runs C by rounds. For most calls there is the
+-- least number of rounds with which they have an outcome, and with one round less that more are
+-- needed: the test that ends a loop takes a round.
 use Rattle.std.proofs.Common.{◌≡◌, ℕ, ℤ, zero, suc, pos, Some, None, List, [], ◌∷◌, refl, sym, ◌∙◌}
 use Rattle.c_ast.specs.declared.expr.BinOp.TheVariants as Op
 use Rattle.c_ast.specs.declared.expr.Expr.TheVariants.{Lit, Var, Binary, Choose, Apply}
@@ -549,14 +549,17 @@ abbrev same : Resolved
 same = record { functions = function 1 (0 ∷ []) (Return (Var 0) ∷ []) ∷ [] }
 
 -- `int x;` gives 0, after the slots in scope
-unset : stmt_outcome Unbounded same 0 (Declare 1 None) (pos 5 ∷ []) ≡ Value (Next (pos 5 ∷ pos 0 ∷ []))
+unset : stmt_outcome Unbounded same 0 (Declare 1 None) (pos 5 ∷ []) ≡
+    Value (Next (pos 5 ∷ pos 0 ∷ []))
 unset = simp equations
 
 -- a loop that never ends needs more rounds, however many there are
-never_ends : (n : ℕ) (s : State) → stmt_outcome Unbounded same n (While (Lit (pos 1)) Empty) s ≡ More
+never_ends : (n : ℕ) (s : State) → stmt_outcome Unbounded same n (While (Lit (pos 1)) Empty) s ≡
+    More
 never_ends zero s = simp equations
 never_ends (suc n) s =
-    simp equations (sym (stmt-While Unbounded (Lit (pos 1)) Empty (rounds Unbounded same n) s) ∙ never_ends n s)
+    simp equations (sym (stmt-While Unbounded (Lit (pos 1)) Empty (rounds Unbounded same n) s) ∙
+    never_ends n s)
 
 -- what a function returns
 power_returns : Returns Unbounded power 0 (pos 2 ∷ []) (Value (pos 1000000014000000049))

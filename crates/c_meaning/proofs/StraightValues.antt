@@ -102,7 +102,9 @@ pub body_straight : (program : Resolved) (f : ℕ) (e : Expr) (arguments : List 
     → (n : ℕ) → call_outcome Unbounded program (suc n) f arguments ≡ Value k
 body_straight program f e arguments k (function, there, body) value n =
     let calls = calls_with (rounds Unbounded program n) in
-    let value_is : expr Unbounded calls e arguments ≡ Value k = expr_straight calls arguments e k value in
+    let value_is : expr Unbounded calls e arguments ≡ Value k =
+    expr_straight calls arguments e k value in
     ap (λ o. body_outcome Unbounded o (rounds Unbounded program n) arguments) there
-    ∙ (ap (λ ts. on_value (in_order (map (stmt Unbounded) ts) (rounds Unbounded program n) arguments) returned) body
+    ∙ (ap (λ ts. on_value (in_order (map (stmt Unbounded) ts) (rounds Unbounded program n)
+    arguments) returned) body
     ∙ rw (stmt-Return Unbounded e (rounds Unbounded program n) arguments, value_is) refl)

@@ -1,7 +1,8 @@
 -- The outcome of an expression in a state, where what calls give is handed in. Numbers as 6.5.5 are
--- sections of ISO/IEC 9899:1999. Values are the mathematical integers, so that nothing overflows, or
--- the integers of 32 bits, where what overflows (6.5p5) is the range error. Operands and arguments
--- are evaluated from left to right, an order that C leaves open (6.5p3, 6.5.2.2p10).
+-- sections of ISO/IEC 9899:1999. Results of arithmetic operators are the mathematical integers, so
+-- that nothing overflows, or the integers of 32 bits, where what overflows (6.5p5) is the range
+-- error; literals and the integers of slots are what they are. Operands and arguments are evaluated
+-- from left to right, an order that C leaves open (6.5p3, 6.5.2.2p10).
 use Rattle.std.specs.Prelude.{ℕ, ◌^◌, Bool, not, nat_lt, if◌then◌else◌, unwrap_or, List, [], ◌∷◌, slice_get, ℤ, pos, negsuc, ◌+ℤ◌, ◌-ℤ◌, ◌*ℤ◌, neg_ℤ, int_lt, int_le, int_div, int_rem}
 use Rattle.std.specs.Ordering.{int_eq}
 use Rattle.c_ast.specs.declared.expr.UnOp.{UnOp}
@@ -28,7 +29,8 @@ slot s v = unwrap_or (slice_get s v) (pos 0)
 abbrev pub is_zero : ℤ → Bool
 is_zero x = int_eq x (pos 0)
 
--- 1 for true and 0 for false, as comparisons and logical operators give them (6.5.3.3p5, 6.5.8p6, 6.5.9p3, 6.5.13p3, 6.5.14p3)
+-- 1 for true and 0 for false, as comparisons and logical operators give them (6.5.3.3p5, 6.5.8p6,
+-- 6.5.9p3, 6.5.13p3, 6.5.14p3)
 abbrev pub truth : Bool → ℤ
 truth b = if b then pos 1 else pos 0
 
@@ -37,8 +39,8 @@ abbrev pub is_int : ℤ → Bool
 is_int (pos n) = nat_lt n (2 ^ 31)
 is_int (negsuc n) = nat_lt n (2 ^ 31)
 
--- what an arithmetic operator gives, from its exact result. Of 32-bit integers a result that is none
--- is an exceptional condition, which C leaves undefined (6.5p5); it is the range error
+-- what an arithmetic operator gives, from its exact result. Of 32-bit integers a result that is
+-- none is an exceptional condition, which C leaves undefined (6.5p5); it is the range error
 abbrev pub exact : Integers → ℤ → Outcome ℤ
 exact Unbounded x = Value x
 exact Bits32 x = if is_int x then Value x else Error Range
@@ -90,13 +92,13 @@ module _ (integers : Integers) where
   -- `==` and `!=` (6.5.9p3)
   binary Eq left right = of_both (λ x y. Value (truth (int_eq x y))) left right
   binary Ne left right = of_both (λ x y. Value (truth (not (int_eq x y)))) left right
-  -- `&&` (6.5.13p3, p4): 0 where the left operand is 0, whatever the right one is; else 1 or 0 as the
-  -- right one is true or not
+  -- `&&` (6.5.13p3, p4): 0 where the left operand is 0, whatever the right one is; else 1 or 0 as
+  -- the right one is true or not
   binary AndAlso left right =
       on_value left (λ x. if is_zero x then Value (pos 0) else
       on_value right (λ y. Value (truth (not (is_zero y)))))
-  -- `||` (6.5.14p3, p4): 1 where the left operand isn't 0, whatever the right one is; else 1 or 0 as
-  -- the right one is true or not
+  -- `||` (6.5.14p3, p4): 1 where the left operand isn't 0, whatever the right one is; else 1 or 0
+  -- as the right one is true or not
   binary OrElse left right =
       on_value left (λ x. if is_zero x then on_value right (λ y. Value (truth (not (is_zero y))))
       else Value (pos 1))

@@ -1,5 +1,6 @@
 -- The outcome of the expressions, statements and calls of a resolved program with a number of
--- rounds, and what a function returns, by one kind of integers. Numbers as 6.9.1 are sections of ISO/IEC 9899:1999.
+-- rounds, and what a function returns, by one kind of integers. Numbers as 6.9.1 are sections of
+-- ISO/IEC 9899:1999.
 use Rattle.std.specs.Prelude.{◌≡◌, ℕ, zero, suc, Option, None, Some, List, [], ◌∷◌, map, slice_get, ℤ, pos}
 use Rattle.c_ast.specs.declared.expr.Expr.{Expr}
 use Rattle.c_ast.specs.declared.stmt.Stmt.{Stmt}
@@ -21,15 +22,15 @@ returned (Continue s) = Value (pos 0)
 
 module _ (integers : Integers) where
   -- a function's body on its parameters, which are the first slots and have the arguments as their
-  -- values (6.5.2.2p4, 6.9.1p9, p10, p11). A well-formed program calls only functions that are there,
-  -- with as many arguments as parameters
+  -- values (6.5.2.2p4, 6.9.1p9, p10, p11). A well-formed program calls only functions that are
+  -- there, with as many arguments as parameters
   abbrev pub body_outcome : Option Function → Rounds → List ℤ → Outcome ℤ
   body_outcome None rounds arguments = More
   body_outcome (Some function) rounds arguments =
       on_value (in_order (map (stmt integers) function.body) rounds arguments) returned
 
-  -- `n` rounds of a program: a call that uses a round up runs the body of the called function with the
-  -- rounds that are left
+  -- `n` rounds of a program: a call that uses a round up runs the body of the called function with
+  -- the rounds that are left
   abbrev pub rounds : Resolved → ℕ → Rounds
   rounds program zero = []
   rounds program (suc n) =
@@ -43,14 +44,14 @@ module _ (integers : Integers) where
   abbrev pub stmt_outcome : Resolved → ℕ → Stmt → State → Outcome Flow
   stmt_outcome program n t s = stmt integers t (rounds program n) s
 
-  -- the outcome of a call of the function at place `f`, with `n` rounds: 'more' where there are none,
-  -- else its body's with one round less
+  -- the outcome of a call of the function at place `f`, with `n` rounds: 'more' where there are
+  -- none, else its body's with one round less
   abbrev pub call_outcome : Resolved → ℕ → ℕ → List ℤ → Outcome ℤ
   call_outcome program n f arguments = calls_with (rounds program n) f arguments
 
 -- the function at place `f` returns `r`, an integer or an error, on the arguments: some number of
--- rounds is enough, and gives the call this outcome. It is asked of as many arguments as the function
--- has parameters
+-- rounds is enough, and gives the call this outcome. It is asked of as many arguments as the
+-- function has parameters
 pub record Returns (integers : Integers) (program : Resolved) (f : ℕ) (arguments : List ℤ)
     (r : Outcome ℤ) : Type 0 where
   pub enough : ℕ

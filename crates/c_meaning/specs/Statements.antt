@@ -122,11 +122,12 @@ module _ (integers : Integers) where
       on_value (expr integers (calls_with rounds) e s)
       (λ x. if is_zero x then optional other rounds s else inner rounds s)
   -- `while` (6.8.5.1)
-  stmt_level (Stmt-F.While e body) rounds s = loop (while_turn (Some e) (optional None) body) rounds s
+  stmt_level (Stmt-F.While e body) rounds s =
+      loop (while_turn (Some e) (optional None) body) rounds s
   -- `do` (6.8.5.2)
   stmt_level (Stmt-F.DoWhile body e) rounds s = loop (do_turn e body) rounds s
-  -- `for` (6.8.5.3): the first part once, and then the loop; the scope of its declarations ends with
-  -- it (6.8.5p5)
+  -- `for` (6.8.5.3): the first part once, and then the loop; the scope of its declarations ends
+  -- with it (6.8.5p5)
   stmt_level (Stmt-F.For first test change body) rounds s =
       on_value (on_value (in_order first rounds s)
       (on_next (loop (while_turn test (optional change) body) rounds))) (leave (length s))

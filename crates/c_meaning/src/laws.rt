@@ -1,15 +1,15 @@
 //! The laws of the meaning by rounds, for every resolved program.
 
-ghost use Rattle.std.specs.Prelude.{◌≡◌, ℕ, suc, List, ℤ, pos};
+ghost use Rattle.std.specs.Prelude.{◌≡◌, ◌≢◌, ℕ, suc, List, ℤ, pos};
 ghost use Rattle.c_ast.specs.declared.expr.Expr.{Expr};
 ghost use Rattle.c_ast.specs.declared.expr.Expr.TheVariants.{Binary};
 ghost use Rattle.c_ast.specs.declared.expr.BinOp.TheVariants.{Div, Rem};
 ghost use Rattle.c_ast.specs.declared.integers.Integers.{Integers};
-ghost use Rattle.c_ast.specs.declared.integers.Integers.TheVariants.{Unbounded};
+ghost use Rattle.c_ast.specs.declared.integers.Integers.TheVariants.{Unbounded, Bits32};
 ghost use Rattle.c_ast.specs.declared.program.Resolved.{Resolved};
 ghost use Rattle.c_ast.specs.declared.stmt.Stmt.{Stmt};
 ghost use Rattle.c_meaning.specs.Laws.{Stays, ReturnsExpression, HasStraightValue, Truncates};
-ghost use Rattle.c_meaning.specs.Outcomes.{Outcome, Value, Error, Division, State};
+ghost use Rattle.c_meaning.specs.Outcomes.{Outcome, Value, Error, Division, Range, State};
 ghost use Rattle.c_meaning.specs.Programs.{expr_outcome, stmt_outcome, call_outcome, Returns};
 
 /// An outcome other than `More` stays the same with more rounds: of an expression, of a statement
@@ -59,4 +59,14 @@ pub fn division_drops_the_fraction()
         expr_outcome integers program n b s ≡ Value (pos 0) →
         (expr_outcome integers program n (Binary Div a b) s ≡ Error Division)
         × (expr_outcome integers program n (Binary Rem a b) s ≡ Error Division) }
+{}
+
+/// What a function returns by the integers of 32 bits, other than the range error, it returns by
+/// the mathematical integers (`kept`). And by these no function returns the range error (`never`).
+pub fn results_in_range_are_kept()
+    ensures kept { (program : Resolved) (f : ℕ) (arguments : List ℤ) (r : Outcome ℤ) →
+        Returns Bits32 program f arguments r → r ≢ Error Range →
+        Returns Unbounded program f arguments r }
+    ensures never { (program : Resolved) (f : ℕ) (arguments : List ℤ) →
+        ¬ (Returns Unbounded program f arguments (Error Range)) }
 {}

@@ -4,11 +4,12 @@
 //! What a reader may rely on: each public function has an empty body, and its contract is a law of
 //! the definitions in `specs/`: `Outcomes` (what evaluating and executing lead to), `Expressions`
 //! and `Statements` (by recursion on the tree, each case with the clause of ISO/IEC 9899:1999 that
-//! it restates), `Programs` (calls by rounds, and what a function returns). Which integers the
-//! values are is the first argument (`Integers` of c_ast): the mathematical integers, or those of 32
-//! bits, where a result out of range is an error of its own, the range error. Each call and each
-//! turn of a loop uses one round; an outcome that needs more rounds than there are is `More`, and
-//! every other outcome is final.
+//! it restates), `Programs` (calls by rounds, and what a function returns). Which results of
+//! arithmetic operators are values is the first argument (`Integers` of c_ast): all, the
+//! mathematical integers, or those of 32 bits, where any other result is an error of its own, the
+//! range error. Arguments and literals aren't tested. Each call and each turn of a loop uses one
+//! round; an outcome that needs more rounds than there are is `More`, and every other outcome is
+//! final.
 //!
 //! The equations of `proofs/Equations` give the outcome of each form of tree from those of its
 //! parts.
@@ -17,8 +18,8 @@
 //! it is the meaning of C by the mathematical integers, but its rounds are handed through: each
 //! call and each turn of a loop takes one off what is left, and an arithmetic operator whose exact
 //! result is no number of `i128` ends the run (`specs/Runs`, `CountedExpressions`,
-//! `CountedStatements`, `Counted`). By its laws an integer or the division error that a run leads to
-//! is what the function returns by the meaning, and what is left is at most what there was.
+//! `CountedStatements`, `Counted`). By its laws an integer or the division error that a run leads
+//! to is what the function returns by the meaning, and what is left is at most what there was.
 #![tactic(auto)]
 
 pub mod counted_laws;
@@ -30,6 +31,6 @@ pub use counted_laws::{
 };
 pub use laws::{
     a_function_returns_at_most_one_outcome, division_drops_the_fraction,
-    outcomes_stay_with_more_rounds, straight_bodies_return_their_value,
+    outcomes_stay_with_more_rounds, results_in_range_are_kept, straight_bodies_return_their_value,
 };
 pub use outcomes::Outcome;

@@ -3,6 +3,7 @@ use Rattle.std.proofs.Common.{◌≡◌, ◌≢◌, ℕ, ℤ, pos, Bool, true, f
 use Rattle.std.specs.Ordering.{int_eq}
 use Rattle.std.proofs.lemmas.Bool.Decides.{Decides-int_eq}
 use Rattle.c_ast.specs.declared.expr.Expr.{Expr}
+use Rattle.c_ast.specs.declared.integers.Integers.TheVariants.{Unbounded}
 use Rattle.c_ast.specs.declared.program.Resolved.{Resolved}
 use Rattle.c_meaning.specs.Outcomes as meaning
 use Rattle.c_meaning.specs.Expressions.{is_zero}
@@ -73,7 +74,7 @@ are_different (Value u) DivError x y is = record {
   differ = λ alike.
       let first : Value u ≡ x = cc in
       let second : DivError ≡ y = cc in
-      let equal : meaning.Value u ≡ meaning.DivisionError = ap meant first ∙
+      let equal : meaning.Value u ≡ meaning.Error meaning.Division = ap meant first ∙
       (alike ∙ sym (ap meant second)) in
       absurd (cc);
 }
@@ -87,7 +88,7 @@ are_different DivError (Value v) x y is = record {
   differ = λ alike.
       let first : DivError ≡ x = cc in
       let second : Value v ≡ y = cc in
-      let equal : meaning.DivisionError ≡ meaning.Value v = ap meant first ∙
+      let equal : meaning.Error meaning.Division ≡ meaning.Value v = ap meant first ∙
       (alike ∙ sym (ap meant second)) in
       absurd (cc);
 }
@@ -123,9 +124,9 @@ counts_if_different Over counts x y is = absurd (cc)
 returns_decided : (program : Resolved) (rounds f : ℕ) (point : List ℤ) (x : Outcome) →
     outcome_of (counted program rounds f point) ≡ x
     → is_decided (outcome_of (counted program rounds f point)) ≡ true →
-    Returns program f point (meant x)
+    Returns Unbounded program f point (meant x)
 returns_decided program rounds f point x is decided =
-    let P : Outcome → Type 0 = λ o. Returns program f point (meant o) in
+    let P : Outcome → Type 0 = λ o. Returns Unbounded program f point (meant o) in
     subst P is (record {
       enough = rounds;
       outcome = decided_meant (call_means program rounds f point) decided;
@@ -152,7 +153,7 @@ difference_returns program f g precondition rounds point x y is =
 -- the value of an expression whose outcome is one
 value_decided : (program : Resolved) (e : Expr) (rounds : ℕ) (point : List ℤ) (v : ℤ) →
     outcome_of (counted_expr program e rounds point) ≡ Value v
-    → expr_outcome program rounds e point ≡ meaning.Value v
+    → expr_outcome Unbounded program rounds e point ≡ meaning.Value v
 value_decided program e rounds point v is =
     let decided : is_decided (outcome_of (counted_expr program e rounds point)) ≡ true =
     ap is_decided is in

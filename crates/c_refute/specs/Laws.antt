@@ -20,7 +20,8 @@ meant Over = meaning.More
 abbrev pub Meets : Resolved → ℕ → Option Expr → List ℤ → Type 0
 Meets program rounds None arguments = ⊤
 Meets program rounds (Some precondition) arguments =
-    (value : ℤ) × (expr_outcome Unbounded program rounds precondition arguments ≡ meaning.Value value) ×
+    (value : ℤ) × (expr_outcome Unbounded program rounds precondition arguments ≡
+    meaning.Value value) ×
     (value ≢ pos 0)
 
 -- by the meaning the functions at two places return these outcomes, which differ, on the arguments

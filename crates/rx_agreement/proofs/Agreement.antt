@@ -5,6 +5,7 @@ use Rattle.std.specs.Prelude.{Contains, slice_get}
 use Rattle.std.proofs.lemmas.Option.{same_Some}
 use Rattle.rx_rewriting.specs.Terms as stack
 use Rattle.rx_rewriting.specs.Steps.{Reaches}
+use Rattle.c_ast.specs.declared.integers.Integers.TheVariants.{Unbounded}
 use Rattle.c_meaning.specs.Programs.{Returns}
 use Rattle.rx_term.specs.Meaning.{Instance}
 use Rattle.rx_term.specs.Paired.{IsPaired}
@@ -66,7 +67,7 @@ module _ (program : Resolved) (code : Code) (carries : CarriesProgram program co
       let called : TakesCall program code f (length arguments) =
       record { symbol = symbol; begins = begins; parameters = count } in
       let is_entry = (carries f symbol begins).is_entry in
-      let Agrees : ℕ → Type 0 = λ s. Returns program f arguments r ↔ Reaches R
+      let Agrees : ℕ → Type 0 = λ s. Returns Unbounded program f arguments r ↔ Reaches R
       (stack.Call s arguments) (result_of r) in
       subst Agrees is_entry
       (agree R program (entry_of code.entries) (TakesCall program code) (acts_in code) does compiled

@@ -18,6 +18,7 @@ use Rattle.rx_row.specs.Negation.{negation}
 use Rattle.rx_row.proofs.RowLaws.{negation-holds}
 use Rattle.c_ast.specs.declared.expr.BinOp.{BinOp}
 use Rattle.c_ast.specs.declared.expr.BinOp.TheVariants as Op
+use Rattle.c_ast.specs.declared.integers.Integers.TheVariants.{Unbounded}
 use Rattle.c_meaning.specs.Outcomes.{Outcome, Value, on_value}
 use Rattle.c_meaning.specs.Expressions.{truth, binary, is_zero}
 use Rattle.rx_code.specs.Codes as code
@@ -122,7 +123,7 @@ comparison_tests op p q row (code.unequal _ _) α =
 
 -- a comparison gives the truth of its test
 pub comparison_value : (op : BinOp) (p q : Body) (row : Row) → IsComparison op p q row → (x y : ℤ) →
-    binary op (Value x) (Value y) ≡ Value (truth (test_of op x y))
+    binary Unbounded op (Value x) (Value y) ≡ Value (truth (test_of op x y))
 comparison_value op p q row (code.less _ _) x y = refl
 comparison_value op p q row (code.at_most _ _) x y = refl
 comparison_value op p q row (code.greater _ _) x y = refl
@@ -136,8 +137,8 @@ truth_zero true = refl
 truth_zero false = refl
 
 pub comparison_outcome : (op : BinOp) (p q : Body) (row : Row) (o u : Outcome ℤ) →
-    IsComparison op p q row → binary op o u ≡
-    on_value o (λ x. on_value u (λ y. binary op (Value x) (Value y)))
+    IsComparison op p q row → binary Unbounded op o u ≡
+    on_value o (λ x. on_value u (λ y. binary Unbounded op (Value x) (Value y)))
 comparison_outcome op p q row o u (code.less _ _) = refl
 comparison_outcome op p q row o u (code.at_most _ _) = refl
 comparison_outcome op p q row o u (code.greater _ _) = refl

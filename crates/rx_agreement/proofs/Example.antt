@@ -31,7 +31,8 @@ use Rattle.c_ast.specs.declared.expr.BinOp.TheVariants as bin
 use Rattle.c_ast.specs.declared.program.Function.{Function}
 use Rattle.c_ast.proofs.CallEquations.{calls-Lit, calls-Var, calls-Binary, calls-Apply, calls_in-Break, calls_in-While, calls_in-Return}
 use Rattle.c_ast.proofs.ScopedEquations.{scoped_equations}
-use Rattle.c_meaning.specs.Outcomes.{Value, DivisionError}
+use Rattle.c_ast.specs.declared.integers.Integers.TheVariants.{Unbounded}
+use Rattle.c_meaning.specs.Outcomes.{Division, Value, Error}
 use Rattle.c_meaning.specs.Programs.{Returns}
 use Rattle.c_meaning.proofs.Equations.{equations}
 use Rattle.rx_code.specs.Pieces.{append_code, after, no_code}
@@ -228,10 +229,10 @@ example_translated = record {
 
 -- ---- what the laws then say
 
-last_at_one : Returns example 1 (pos 1 ∷ []) (Value (pos 1))
+last_at_one : Returns Unbounded example 1 (pos 1 ∷ []) (Value (pos 1))
 last_at_one = record { enough = 2; outcome = simp equations; is_answer = tt }
 
-last_at_zero : Returns example 1 (pos 0 ∷ []) DivisionError
+last_at_zero : Returns Unbounded example 1 (pos 0 ∷ []) (Error Division)
 last_at_zero = record { enough = 2; outcome = simp equations; is_answer = tt }
 
 agrees : AgreeOn example example_parts.rules 1 3
@@ -244,4 +245,4 @@ returned_integer = (agrees (pos 1 ∷ []) refl (Value (pos 1)) tt).0 last_at_one
 
 pub division_error : Reaches (Instance example_parts.rules) (stack.Call 3 (pos 0 ∷ []))
     (stack.Fail 1)
-division_error = (agrees (pos 0 ∷ []) refl DivisionError tt).0 last_at_zero
+division_error = (agrees (pos 0 ∷ []) refl (Error Division) tt).0 last_at_zero

@@ -4,7 +4,8 @@ use Rattle.rx_rewriting.specs.Terms as stack
 use Rattle.rx_rewriting.specs.Terms.{Ground, Relation}
 use Rattle.rx_rewriting.specs.Steps.{Step, ReachesIn, NoStep, OneMore}
 use Rattle.rx_rewriting.proofs.Chains.{ReachesIn-trans}
-use Rattle.c_meaning.specs.Outcomes.{Outcome, Value, DivisionError, More, on_value}
+use Rattle.c_meaning.specs.Outcomes.{Outcome, Value, Error, More, on_value}
+use Rattle.rx_agreement.specs.Agreement.{code_of}
 use Rattle.rx_agreement.proofs.Runs.{Runs, RunsOn, Long}
 
 -- a product of a sum
@@ -49,11 +50,11 @@ module _ (R : Relation) (w : ℕ) where
             omega (arith, e, long.enough);
       }
 
-  -- where an outcome leads: a value as P says, the division error to the failure, and 'more' to a
-  -- long run
+  -- where an outcome leads: a value as P says, an error to its failure, which is the one that
+  -- frames hand on, and 'more' to a long run
   abbrev pub Leads : {A : Type 0} → ℕ → ℕ → Ground → (A → Type 0) → Outcome A → Type 0
   Leads m h start P (Value x) = P x
-  Leads m h start P DivisionError = Runs R w start (stack.Fail 1)
+  Leads m h start P (Error e) = (code_of e ≡ 1) × Runs R w start (stack.Fail (code_of e))
   Leads m h start P More = Long R w m h start
 
   -- goes on from a value
@@ -62,7 +63,7 @@ module _ (R : Relation) (w : ℕ) where
       → Leads m h start P o → ((x : A) → P x → Leads m h start Q (g x)) →
       Leads m h start Q (on_value o g)
   leads-on m h start P Q (Value x) g here next = next x here
-  leads-on m h start P Q DivisionError g here next = here
+  leads-on m h start P Q (Error e) g here next = here
   leads-on m h start P Q More g here next = here
 
   -- a run before
@@ -70,5 +71,5 @@ module _ (R : Relation) (w : ℕ) where
       (o : Outcome B)
       → Runs R w start middle → ((y : B) → P y → Q y) → Leads m h middle P o → Leads m h start Q o
   leads-after m h start middle P Q (Value x) run wider there = wider x there
-  leads-after m h start middle P Q DivisionError run wider there = run-trans run there
+  leads-after m h start middle P Q (Error e) run wider there = (there.0, run-trans run there.1)
   leads-after m h start middle P Q More run wider there = long-after run there

@@ -22,6 +22,7 @@ use Rattle.c_ast.specs.declared.expr.Expr.{Expr}
 use Rattle.c_ast.specs.declared.expr.Expr.TheVariants as expr
 use Rattle.c_ast.specs.declared.program.Resolved.{Resolved}
 use Rattle.c_ast.proofs.FormEquations.{forms-Lit, forms-Var, forms-Unary, forms-Binary, forms-Choose, forms-Apply}
+use Rattle.c_ast.specs.declared.integers.Integers.TheVariants.{Unbounded}
 use Rattle.c_meaning.specs.Outcomes.{Value, State, on_value}
 use Rattle.c_meaning.specs.Expressions.{Calls, binary, truth}
 use Rattle.c_meaning.specs.Expressions as means
@@ -52,16 +53,18 @@ module _ (s : State) where
 
   -- a straight expression has the value of its polynomial
   abbrev HasValue : Expr → Type 0
-  HasValue e = (calls : Calls) → means.expr calls e s ≡ Value (value (assigned s) (polynomial e))
+  HasValue e =
+      (calls : Calls) → means.expr Unbounded calls e s ≡ Value (value (assigned s) (polynomial e))
 
   sum_has : (op : BinOp) (e f : Expr) (p : Body) (h : ℤ → ℤ → ℤ) →
-      ((x y : ℤ) → binary op (Value x) (Value y) ≡ Value (h x y)) →
+      ((x y : ℤ) → binary Unbounded op (Value x) (Value y) ≡ Value (h x y)) →
       polynomial (expr.Binary op e f) ≡ p
       → value (assigned s) p ≡ h (value (assigned s) (polynomial e))
       (value (assigned s) (polynomial f)) → HasValue e → HasValue f →
       HasValue (expr.Binary op e f)
   sum_has op e f p h computes is adds left right calls =
-      expr-Binary calls op e f s ∙ (λ i. binary op (left calls i) (right calls i))
+      expr-Binary Unbounded calls op e f s ∙ (λ i. binary Unbounded op (left calls i)
+      (right calls i))
       ∙ computes (value (assigned s) (polynomial e)) (value (assigned s) (polynomial f)) ∙
       ap Value (sym adds ∙ ap (value (assigned s)) (sym is))
 
@@ -92,15 +95,16 @@ module _ (s : State) where
 
   straight_value : (e : Expr) → ExprTree e → (forms e).straight ≡ true → HasValue e
   straight_value e (tree.Literal k) is calls =
-      expr-Lit calls k s ∙ ap Value (sym (value-number (assigned s) k) ∙
+      expr-Lit Unbounded calls k s ∙ ap Value (sym (value-number (assigned s) k) ∙
       ap (λ p. value (assigned s) p) (sym (ap (λ (r : Read). r.value.form) (read-Lit k))))
   straight_value e (tree.Variable v) is calls =
-      expr-Var calls v s ∙ ap Value (sym (value-variable (assigned s) v) ∙
+      expr-Var Unbounded calls v s ∙ ap Value (sym (value-variable (assigned s) v) ∙
       ap (λ p. value (assigned s) p) (sym (ap (λ (r : Read). r.value.form) (read-Var v))))
   straight_value e (tree.OneOperand un.Plus f inner) is calls =
       let h = straight_value f inner (sym (ap (λ (r : Forms). r.straight) (forms-Unary un.Plus f)) ∙
       is) calls in
-      expr-Unary calls un.Plus f s ∙ ap (λ o. on_value o (λ x. Value (means.unary un.Plus x))) h ∙
+      expr-Unary Unbounded calls un.Plus f s ∙
+      ap (λ o. on_value o (means.unary Unbounded un.Plus)) h ∙
       ap (λ p. Value (value (assigned s) p))
       (sym (ap (λ (r : Read). r.value.form) (read-Unary un.Plus f)))
   straight_value e (tree.OneOperand un.Minus f inner) is calls =
@@ -110,7 +114,8 @@ module _ (s : State) where
       let g = value-scaled_by (assigned s) (negsuc 0) (polynomial f) in
       let opposite : neg_ℤ x ≡ value (assigned s) (scaled_by (negsuc 0) (polynomial f)) =
       omega (arith, ints, g) in
-      expr-Unary calls un.Minus f s ∙ ap (λ o. on_value o (λ x. Value (means.unary un.Minus x))) h ∙
+      expr-Unary Unbounded calls un.Minus f s ∙
+      ap (λ o. on_value o (means.unary Unbounded un.Minus)) h ∙
       ap Value opposite
       ∙ ap (λ p. Value (value (assigned s) p))
       (sym (ap (λ (r : Read). r.value.form) (read-Unary un.Minus f)))
@@ -133,7 +138,7 @@ module _ (s : State) where
   -- a precondition has the truth of its rows as its value
   record HasTruth (e : Expr) : Type 0 where
     truth_is : Bool
-    outcome : (calls : Calls) → means.expr calls e s ≡ Value (truth truth_is)
+    outcome : (calls : Calls) → means.expr Unbounded calls e s ≡ Value (truth truth_is)
     hold : truth_is ≡ true → AllHold (assigned s) (rows e)
     fail : truth_is ≡ false → AllHold (assigned s) (rows e) → ⊥
 
@@ -148,7 +153,8 @@ module _ (s : State) where
       record {
         truth_is = test_of op x y;
         outcome =
-            λ calls. expr-Binary calls op e f s ∙ (λ i. binary op (left calls i) (right calls i)) ∙
+            λ calls. expr-Binary Unbounded calls op e f s ∙
+            (λ i. binary Unbounded op (left calls i) (right calls i)) ∙
             comparison_value op (polynomial e) (polynomial f) row is x y;
         hold =
             λ yes. subst (AllHold α) (sym rows_are)
@@ -166,8 +172,8 @@ module _ (s : State) where
       record {
         truth_is = left.truth_is && right.truth_is;
         outcome =
-            λ calls. expr-Binary calls bin.AndAlso e f s ∙
-            (λ i. binary bin.AndAlso (left.outcome calls i) (right.outcome calls i)) ∙
+            λ calls. expr-Binary Unbounded calls bin.AndAlso e f s ∙
+            (λ i. binary Unbounded bin.AndAlso (left.outcome calls i) (right.outcome calls i)) ∙
             and_truth left.truth_is right.truth_is;
         hold = λ yes.
             let both = and_parts left.truth_is right.truth_is yes in
@@ -180,7 +186,7 @@ module _ (s : State) where
             (λ second. right.fail second (all_right (RowHolds α) (rows e) (rows f) both));
       }
     where
-      and_truth : (a b : Bool) → binary bin.AndAlso (Value (truth a)) (Value (truth b)) ≡
+      and_truth : (a b : Bool) → binary Unbounded bin.AndAlso (Value (truth a)) (Value (truth b)) ≡
           Value (truth (a && b))
       and_truth true true = refl
       and_truth true false = refl
@@ -253,7 +259,7 @@ means_its_rows program pre arguments is =
     let h = row_truth arguments pre (expr_tree pre) is in
     record {
       value = truth h.truth_is;
-      outcome = λ n. h.outcome (calls_with (rounds program n));
+      outcome = λ n. h.outcome (calls_with (rounds Unbounded program n));
       rows = (holds_where h.truth_is h.fail, fails_where h.truth_is h.hold);
     }
   where

@@ -11,7 +11,8 @@ use Rattle.rx_rewriting.proofs.Chains.{ReachesIn-reaches, Reaches-counted}
 use Rattle.rx_rewriting.proofs.UniqueResults.{result_in_rest, reached_from_result}
 use Rattle.c_ast.specs.declared.program.Function.{Function}
 use Rattle.c_ast.specs.declared.program.Resolved.{Resolved}
-use Rattle.c_meaning.specs.Outcomes.{Outcome, Value, DivisionError, More, on_value, IsAnswer, State, Flow, Next, Break, Continue, Return}
+use Rattle.c_ast.specs.declared.integers.Integers.TheVariants.{Unbounded}
+use Rattle.c_meaning.specs.Outcomes.{Failure, Division, Range, Outcome, Value, Error, More, on_value, IsAnswer, State, Flow, Next, Break, Continue, Return}
 use Rattle.c_meaning.specs.Statements.{Rounds, in_order, stmt}
 use Rattle.c_meaning.specs.Programs.{returned, body_outcome, rounds, call_outcome, Returns}
 use Rattle.rx_term.specs.Assigned.{assigned}
@@ -20,7 +21,7 @@ use Rattle.rx_code.specs.Doing.{DoAll, at_point}
 use Rattle.rx_code.specs.declared.action.Action.TheVariants as does_at
 use Rattle.rx_code.specs.declared.point.Point.{Point}
 use Rattle.rx_code.specs.Codes.{HasCode}
-use Rattle.rx_agreement.specs.Agreement.{result_of}
+use Rattle.rx_agreement.specs.Agreement.{code_of, result_of}
 use Rattle.rx_agreement.proofs.Loops.{loops, total}
 use Rattle.rx_agreement.proofs.Runs.{Runs, Long}
 use Rattle.rx_agreement.proofs.Leads.{Leads, run-step, run-trans, on-run}
@@ -39,6 +40,13 @@ less_times : (i j w : ℕ) → i ≤ j → i * w ≤ j * w
 less_times zero j w below = omega arith
 less_times (suc i) zero w below = absurd (omega arith)
 less_times (suc i) (suc j) w below = let h = less_times i j w (omega arith) in omega (arith, h)
+
+-- errors with one code are one
+same_error : (e d : Failure) → code_of e ≡ code_of d → e ≡ d
+same_error Division Division same = refl
+same_error Division Range same = absurd (omega arith)
+same_error Range Division same = absurd (omega arith)
+same_error Range Range same = refl
 
 module _ (R : Relation) (program : Resolved) (entry : ℕ → ℕ) (may : ℕ → ℕ → Type 0) (acts : Actions)
     (does : DoAll R entry acts)
@@ -67,7 +75,7 @@ module _ (R : Relation) (program : Resolved) (entry : ℕ → ℕ) (may : ℕ �
   ends_value m h start n k end (Value (Continue s)) none act below there =
       run-trans R w there.0 (zero_at_end end s none act)
   ends_value m h start n k end (Value (Return x)) none act below there = there
-  ends_value m h start n k end DivisionError none act below there = there
+  ends_value m h start n k end (Error e) none act below there = there
   ends_value m h start n k end More none act below there =
       record {
         steps = there.steps;
@@ -79,7 +87,7 @@ module _ (R : Relation) (program : Resolved) (entry : ℕ → ℕ) (may : ℕ �
 
   body_runs : (r : Rounds) (m : ℕ) → Fine R entry acts may does w positive r m →
       CallsRun R entry acts may does w positive (suc m)
-      (λ f. body_outcome (slice_get program.functions f) r)
+      (λ f. body_outcome Unbounded (slice_get program.functions f) r)
   body_runs r m fine f args called =
       let there = coded f (length args) called in
       let body = there.function.body in
@@ -97,41 +105,44 @@ module _ (R : Relation) (program : Resolved) (entry : ℕ → ℕ) (may : ℕ �
       ap (stack.Call (entry f)) (ap (λ k. take k args) (sym long) ∙ take-length args) in
       let P : Ground → Type 0 = λ g. Executes R entry acts may does w positive m
       (total (map loops body)) g (length there.function.params) code.slots end end end
-      (in_order (map stmt body) r args) in
+      (in_order (map (stmt Unbounded) body) r args) in
       let Q : Option Function → Type 0 = λ o.
       Leads R w (suc m) w (stack.Call (entry f) args)
-      (λ k. Runs R w (stack.Call (entry f) args) (stack.Return k)) (body_outcome o r args) in
+      (λ k. Runs R w (stack.Call (entry f) args) (stack.Return k))
+      (body_outcome Unbounded o r args) in
       subst Q (sym there.stands)
       (ends_value m (total (map loops body)) (stack.Call (entry f) args)
-      (length there.function.params) code.slots end (in_order (map stmt body) r args)
+      (length there.function.params) code.slots end (in_order (map (stmt Unbounded) body) r args)
       code.no_variables code.returns_zero
       (let e = bounded f there.function there.stands in omega (arith, e)) (subst P at runs))
 
   -- the rounds of a program
-  fine_rounds : (n : ℕ) → Fine R entry acts may does w positive (rounds program n) n
+  fine_rounds : (n : ℕ) → Fine R entry acts may does w positive (rounds Unbounded program n) n
   fine_rounds zero = no_round
   fine_rounds (suc n) =
-      one_round _ (rounds program n) n (body_runs (rounds program n) n (fine_rounds n))
+      one_round _ (rounds Unbounded program n) n
+      (body_runs (rounds Unbounded program n) n (fine_rounds n))
       (fine_rounds n)
 
   answers_reach : (m : ℕ) (start : Ground) (r : Outcome ℤ) → IsAnswer r →
       Leads R w m w start (λ v. Runs R w start (stack.Return v)) r → Reaches R start (result_of r)
   answers_reach m start (Value k) answer there = ReachesIn-reaches there.1
-  answers_reach m start DivisionError answer there = ReachesIn-reaches there.1
+  answers_reach m start (Error e) answer there = ReachesIn-reaches there.1.1
   answers_reach m start More answer there = absurd answer
 
   result_is : (r : Outcome ℤ) → IsAnswer r → IsResult (result_of r)
   result_is (Value k) answer = tt
-  result_is DivisionError answer = tt
+  result_is (Error e) answer = tt
   result_is More answer = absurd answer
 
   same_result : (r q : Outcome ℤ) → IsAnswer r → IsAnswer q → result_of r ≡ result_of q → r ≡ q
   same_result (Value k) (Value l) one two same = cc
-  same_result (Value k) DivisionError one two same = let no : ⊥ = cc in absurd no
+  same_result (Value k) (Error e) one two same = let no : ⊥ = cc in absurd no
   same_result (Value k) More one two same = absurd two
-  same_result DivisionError (Value l) one two same = let no : ⊥ = cc in absurd no
-  same_result DivisionError DivisionError one two same = refl
-  same_result DivisionError More one two same = absurd two
+  same_result (Error e) (Value l) one two same = let no : ⊥ = cc in absurd no
+  same_result (Error e) (Error d) one two same =
+      let codes : code_of e ≡ code_of d = cc in ap Error (same_error e d codes)
+  same_result (Error e) More one two same = absurd two
   same_result More q one two same = absurd one
 
   -- a run of j steps to a result leaves no room for 'more' with n rounds
@@ -155,41 +166,47 @@ module _ (R : Relation) (program : Resolved) (entry : ℕ → ℕ) (may : ℕ �
   pub agree : IsSingleValued R → ResultsAreNormal R → (f : ℕ) (args : List ℤ) →
       may f (length args) →
       (r : Outcome ℤ) → IsAnswer r
-      → Returns program f args r ↔ Reaches R (stack.Call (entry f) args) (result_of r)
+      → Returns Unbounded program f args r ↔ Reaches R (stack.Call (entry f) args) (result_of r)
   agree single rest f args called r answer = (there, back)
     where
-      there : Returns program f args r → Reaches R (stack.Call (entry f) args) (result_of r)
+      there : Returns Unbounded program f args r →
+          Reaches R (stack.Call (entry f) args) (result_of r)
       there returns =
           answers_reach returns.enough (stack.Call (entry f) args) r answer
           (subst (Leads R w returns.enough w (stack.Call (entry f) args)
           (λ v. Runs R w (stack.Call (entry f) args) (stack.Return v))) returns.outcome
-          (calls_run R entry acts may does w positive (rounds program returns.enough) returns.enough
+          (calls_run R entry acts may does w positive (rounds Unbounded program returns.enough)
+          returns.enough
           (fine_rounds returns.enough) f args called))
 
-      found : (n j : ℕ) (o : Outcome ℤ) → n ≡ suc (j * w + w) → call_outcome program n f args ≡ o →
+      found : (n j : ℕ) (o : Outcome ℤ) → n ≡ suc (j * w + w) →
+          call_outcome Unbounded program n f args ≡ o →
           Reaches R (stack.Call (entry f) args) (result_of r)
           → ReachesIn R j (stack.Call (entry f) args) (result_of r)
           → Leads R w n w (stack.Call (entry f) args)
-          (λ v. Runs R w (stack.Call (entry f) args) (stack.Return v)) o → Returns program f args r
+          (λ v. Runs R w (stack.Call (entry f) args) (stack.Return v)) o →
+          Returns Unbounded program f args r
       found n j (Value k) is outcome reaches counted runs =
           let e : Value k ≡ r = same_result (Value k) r tt answer
           (two_results (stack.Call (entry f) args) (stack.Return k) (result_of r) single rest tt
           (result_is r answer) (ReachesIn-reaches runs.1) reaches) in
           record { enough = n; outcome = outcome ∙ e; is_answer = answer }
-      found n j DivisionError is outcome reaches counted runs =
-          let e : DivisionError ≡ r = same_result DivisionError r tt answer
-          (two_results (stack.Call (entry f) args) (stack.Fail 1) (result_of r) single rest tt
-          (result_is r answer) (ReachesIn-reaches runs.1) reaches) in
+      found n j (Error d) is outcome reaches counted runs =
+          let e : Error d ≡ r = same_result (Error d) r tt answer
+          (two_results (stack.Call (entry f) args) (stack.Fail (code_of d)) (result_of r) single
+          rest tt (result_is r answer) (ReachesIn-reaches runs.1.1) reaches) in
           record { enough = n; outcome = outcome ∙ e; is_answer = answer }
       found n j More is outcome reaches counted runs =
           absurd (too_long j (stack.Call (entry f) args) (result_of r) single rest
           (result_is r answer) counted (subst (λ k. Long R w k w (stack.Call (entry f) args)) is
           runs))
 
-      back : Reaches R (stack.Call (entry f) args) (result_of r) → Returns program f args r
+      back : Reaches R (stack.Call (entry f) args) (result_of r) →
+          Returns Unbounded program f args r
       back reaches =
           let (j, counted) = Reaches-counted reaches in
           let n = suc (j * w + w) in
-          found n j (call_outcome program n f args) refl refl reaches counted
-          (calls_run R entry acts may does w positive (rounds program n) n (fine_rounds n) f args
+          found n j (call_outcome Unbounded program n f args) refl refl reaches counted
+          (calls_run R entry acts may does w positive (rounds Unbounded program n) n (fine_rounds n)
+          f args
           called)

@@ -13,7 +13,8 @@ use Rattle.rx_rewriting.proofs.Chains.{ReachesIn-trans}
 use Rattle.c_ast.specs.declared.expr.Expr.{Expr}
 use Rattle.c_ast.specs.declared.stmt.Stmt.{Stmt}
 use Rattle.c_ast.specs.declared.stmt.Stmt.TheVariants as Syntax
-use Rattle.c_meaning.specs.Outcomes.{Outcome, Value, DivisionError, More, on_value, State, Flow, Next, Break, Continue, Return}
+use Rattle.c_ast.specs.declared.integers.Integers.TheVariants.{Unbounded}
+use Rattle.c_meaning.specs.Outcomes.{Outcome, Value, Error, More, on_value, State, Flow, Next, Break, Continue, Return}
 use Rattle.c_meaning.specs.Expressions.{Calls, is_zero, expr}
 use Rattle.c_meaning.specs.Statements.{Rounds, calls_with, optional, on_next, in_order, leave, Turn, Again, Ends, on_again, loop, after_body, after_change, condition, while_turn, do_turn, stmt}
 use Rattle.c_meaning.proofs.Equations as means
@@ -69,7 +70,7 @@ module _ (R : Relation) (entry : ℕ → ℕ) (acts : Actions) (callable : ℕ �
   leads-wider : {A : Type 0} (m h g : ℕ) (s : Ground) (P : A → Type 0) (o : Outcome A) → h ≤ g →
       Leads R w m h s P o → Leads R w m g s P o
   leads-wider m h g s P (Value x) below there = there
-  leads-wider m h g s P DivisionError below there = there
+  leads-wider m h g s P (Error error) below there = there
   leads-wider m h g s P More below there = long-wider m h g s below there
 
   -- where a statement leads
@@ -123,7 +124,8 @@ module _ (R : Relation) (entry : ℕ → ℕ) (acts : Actions) (callable : ℕ �
   -- the value of an expression, from a point on a state
   evaluates : (r : Rounds) (m : ℕ) → Fine r m → (n : ℕ) (e : Expr) (a b : Point) (p : Body) →
       IsValue acts callable n e a b p → (s : State) → a.width ≡ n → n ≤ length s
-      → Leads R w m 0 (at_point a s) (Comes R w a b (take a.width s) p) (expr (calls_with r) e s)
+      → Leads R w m 0 (at_point a s) (Comes R w a b (take a.width s) p)
+      (expr Unbounded (calls_with r) e s)
   evaluates r m fine n e a b p is s same enough =
       value_runs R entry acts callable does w n m (calls_with r) (calls_run r m fine) e a b p is s
       (take a.width s) (over_state n a s same enough) (long_state n a s same enough)
@@ -131,7 +133,7 @@ module _ (R : Relation) (entry : ℕ → ℕ) (acts : Actions) (callable : ℕ �
   decides : (r : Rounds) (m : ℕ) → Fine r m → (n : ℕ) (e : Expr) (a y z : Point) →
       IsCondition acts callable n e a y z → (s : State) → a.width ≡ n → n ≤ length s
       → Leads R w m 0 (at_point a s) (Forked R w (at_point a s) y z (take a.width s))
-      (expr (calls_with r) e s)
+      (expr Unbounded (calls_with r) e s)
   decides r m fine n e a y z is s same enough =
       condition_runs R entry acts callable does w n m (calls_with r) (calls_run r m fine) e a y z is
       s (take a.width s) (over_state n a s same enough) (long_state n a s same enough)
@@ -156,7 +158,7 @@ module _ (R : Relation) (entry : ℕ → ℕ) (acts : Actions) (callable : ℕ �
           executes-after m h (at_point a s) (at_point y s) n k z B K then_
           (on-run R w (subst (RunsOn R w (at_point a s))
           (jump_same a y s (omega (arith, same, fits_y))) there)) first
-  branches m h n a y x z B K s k DivisionError then_ else_ same fits_y fits_x there first second =
+  branches m h n a y x z B K s k (Error error) then_ else_ same fits_y fits_x there first second =
       there
   branches m h n a y x z B K s k More then_ else_ same fits_y fits_x there first second =
       long-wider m 0 h (at_point a s) (omega arith) there
@@ -233,7 +235,7 @@ module _ (R : Relation) (entry : ℕ → ℕ) (acts : Actions) (callable : ℕ �
       go (Break s) done = done
       go (Continue s) done = done
       go (Return x) done = done
-  leaves m h start n i count z B K below enough fits_z fits_B fits_K DivisionError there = there
+  leaves m h start n i count z B K below enough fits_z fits_B fits_K (Error error) there = there
   leaves m h start n i count z B K below enough fits_z fits_B fits_K More there = there
 
   -- one statement after another
@@ -255,7 +257,7 @@ module _ (R : Relation) (entry : ℕ → ℕ) (acts : Actions) (callable : ℕ �
   nexts m h start n k l c z B K (Value (Break s)) rest below there each = there
   nexts m h start n k l c z B K (Value (Continue s)) rest below there each = there
   nexts m h start n k l c z B K (Value (Return x)) rest below there each = there
-  nexts m h start n k l c z B K DivisionError rest below there each = there
+  nexts m h start n k l c z B K (Error error) rest below there each = there
   nexts m h start n k l c z B K More rest below there each = there
 
   -- where a turn of a loop leads
@@ -303,7 +305,7 @@ module _ (R : Relation) (entry : ℕ → ℕ) (acts : Actions) (callable : ℕ �
           Executes (suc l) (suc h) (at_point head s) n n z B K o
       again s' run (Value f) there =
           flowed-after (at_point head s) (at_point head s') n n z B K (on-run R w run) f there
-      again s' run DivisionError there = run-trans R w (on-run R w run) there
+      again s' run (Error error) there = (there.0, run-trans R w (on-run R w run) there.1)
       again s' run More there = a_turn_more (at_point head s) (at_point head s') run there
 
       go : ((s' : State) → n ≤ length s' → Executes l (suc h) (at_point head s') n n z B K
@@ -315,7 +317,7 @@ module _ (R : Relation) (entry : ℕ → ℕ) (acts : Actions) (callable : ℕ �
       go next_turns (Value (Again s')) there =
           again s' there.0 (loop turn left s') (next_turns s' there.1)
       go next_turns (Value (Ends f)) there = there
-      go next_turns DivisionError there = there
+      go next_turns (Error error) there = there
       go next_turns More there = longer there
 
   -- the same, where the loop may go on without a step
@@ -360,7 +362,7 @@ module _ (R : Relation) (entry : ℕ → ℕ) (acts : Actions) (callable : ℕ �
       broken s there.0 there.1
   after_body_runs T m h start n k c z (Value (Return x)) rest below broken back carry there each =
       back x there
-  after_body_runs T m h start n k c z DivisionError rest below broken back carry there each = there
+  after_body_runs T m h start n k c z (Error error) rest below broken back carry there each = there
   after_body_runs T m h start n k c z More rest below broken back carry there each = there
 
   -- a turn of a `while` or a `for`
@@ -397,7 +399,7 @@ module _ (R : Relation) (entry : ℕ → ℕ) (acts : Actions) (callable : ℕ �
           (after_body_runs (λ g. Turning g n head z B K) m h (at_point y s) n k c z body rest below
           (λ t run fits. (run, fits)) (λ x run. run)
           (λ middle run. turning-after (at_point y s) middle n head z B K run) inner each)
-  while_runs m h n k head y c z B K s DivisionError body rest below same fits_y fits_z enough there
+  while_runs m h n k head y c z B K s (Error error) body rest below same fits_y fits_z enough there
       inner each =
       there
   while_runs m h n k head y c z B K s More body rest below same fits_y fits_z enough there inner
@@ -441,7 +443,7 @@ module _ (R : Relation) (entry : ℕ → ℕ) (acts : Actions) (callable : ℕ �
                 there,
             enough,
           )
-      test t enough DivisionError there = there
+      test t enough (Error error) there = there
       test t enough More there = long-wider m 0 h (at_point c t) (omega arith) there
 
   -- the last part of a `for`
@@ -453,7 +455,7 @@ module _ (R : Relation) (entry : ℕ → ℕ) (acts : Actions) (callable : ℕ �
   changes m h n k c head z B K t (Value (Break s)) below there = there
   changes m h n k c head z B K t (Value (Continue s)) below there = there
   changes m h n k c head z B K t (Value (Return x)) below there = there
-  changes m h n k c head z B K t DivisionError below there = there
+  changes m h n k c head z B K t (Error error) below there = there
   changes m h n k c head z B K t More below there = there
 
   -- a statement gives no slots back
@@ -490,7 +492,7 @@ module _ (R : Relation) (entry : ℕ → ℕ) (acts : Actions) (callable : ℕ �
         (sets n v a b z s p x act same enough below fits wide come),
     long x,
   )
-  sets_next m h n v k a b z B K s p DivisionError next act same enough below fits wide is long there
+  sets_next m h n v k a b z B K s p (Error error) next act same enough below fits wide is long there
       =
       there
   sets_next m h n v k a b z B K s p More next act same enough below fits wide is long there =
@@ -506,7 +508,7 @@ module _ (R : Relation) (entry : ℕ → ℕ) (acts : Actions) (callable : ℕ �
       run-trans R w come.run (on-run R w (run-step R w
       (subst (λ k. Step R (stack.Call b.symbol ys) (stack.Return k)) is
       (does b (does_at.Return p) act ys come.long))))
-  returns_value m h n a b z B K s p DivisionError act there = there
+  returns_value m h n a b z B K s p (Error error) act there = there
   returns_value m h n a b z B K s p More act there =
       long-wider m 0 h (at_point a s) (omega arith) there
 
@@ -518,9 +520,9 @@ module _ (R : Relation) (entry : ℕ → ℕ) (acts : Actions) (callable : ℕ �
             targets.continues in omega (arith, e, below);
       }
 
-  condition_is : (test : Option Expr) (r : Rounds) (s : State) → condition test r s ≡
-      expr (calls_with r) (test_or_one test) s
-  condition_is None r s = sym (means.expr-Lit (calls_with r) (pos 1) s)
+  condition_is : (test : Option Expr) (r : Rounds) (s : State) → condition Unbounded test r s ≡
+      expr Unbounded (calls_with r) (test_or_one test) s
+  condition_is None r s = sym (means.expr-Lit Unbounded (calls_with r) (pos 1) s)
   condition_is (Some e) r s = refl
 
   flowed-outer : (start : Ground) (n i k : ℕ) (z B K : Point) → n ≤ i → (f : Flow) →
@@ -551,19 +553,20 @@ module _ (R : Relation) (entry : ℕ → ℕ) (acts : Actions) (callable : ℕ �
   for_count first test (Some c) u = count.loops-For-Some first test c u
 
   for_is : (first : List Stmt) (test : Option Expr) (change : Option Stmt) (u : Stmt) (r : Rounds)
-      (s : State) → stmt (Syntax.For first test change u) r s
-      ≡ on_value (on_value (in_order (map stmt first) r s)
-      (on_next (loop (while_turn test (optional (option_map stmt change)) (stmt u)) r)))
+      (s : State) → stmt Unbounded (Syntax.For first test change u) r s
+      ≡ on_value (on_value (in_order (map (stmt Unbounded) first) r s)
+      (on_next (loop (while_turn Unbounded test (optional (option_map (stmt Unbounded) change))
+      (stmt Unbounded u)) r)))
       (leave (length s))
-  for_is first test None u r s = means.stmt-For-None first test u r s
-  for_is first test (Some c) u r s = means.stmt-For-Some first test c u r s
+  for_is first test None u r s = means.stmt-For-None Unbounded first test u r s
+  for_is first test (Some c) u r s = means.stmt-For-Some Unbounded first test c u r s
 
   last_is : (o : Outcome Flow) (r : Rounds) → on_value o (on_next (in_order [] r)) ≡ o
   last_is (Value (Next s)) r = refl
   last_is (Value (Break s)) r = refl
   last_is (Value (Continue s)) r = refl
   last_is (Value (Return x)) r = refl
-  last_is DivisionError r = refl
+  last_is (Error error) r = refl
   last_is More r = refl
 
   mutual
@@ -571,13 +574,14 @@ module _ (R : Relation) (entry : ℕ → ℕ) (acts : Actions) (callable : ℕ �
     pub statement_runs : (n : ℕ) (t : Stmt) (k : ℕ) (a z B K : Point) →
         IsStatement acts callable n t k a z B K → Targets n B K → (r : Rounds) (m : ℕ) → Fine r m →
         (s : State)
-        → a.width ≡ n → n ≤ length s → Executes m (loops t) (at_point a s) n k z B K (stmt t r s)
+        → a.width ≡ n → n ≤ length s → Executes m (loops t) (at_point a s) n k z B K
+        (stmt Unbounded t r s)
     statement_runs n t k a z B K (code.empty _ _ _ _ _ act fits) targets r m fine s same enough =
-        subst (Executes m (loops t) (at_point a s) n n z B K) (sym (means.stmt-Empty r s))
+        subst (Executes m (loops t) (at_point a s) n n z B K) (sym (means.stmt-Empty Unbounded r s))
         (goes a z s n act same enough fits, enough)
     statement_runs n t k a z B K (code.unset _ _ _ _ _ act fits) targets r m fine s same enough =
         subst (Executes m (loops t) (at_point a s) n (suc n) z B K)
-        (sym (means.stmt-Declare-None n r s))
+        (sym (means.stmt-Declare-None Unbounded n r s))
         (sets_next m (loops t) n n (suc n) a a z B K s (number (pos 0)) (Value (pos 0))
         (λ x. take n s ++ x ∷ []) act same enough (omega arith) fits (inr refl)
         (λ x. ap (take z.width) (with_element-end-is n x s enough))
@@ -594,8 +598,8 @@ module _ (R : Relation) (entry : ℕ → ℕ) (acts : Actions) (callable : ℕ �
     statement_runs n t k a z B K (code.declared _ e _ b _ _ _ p inner act fits) targets r m fine s
         same enough =
         subst (Executes m (loops t) (at_point a s) n (suc n) z B K)
-        (sym (means.stmt-Declare-Some n e r s))
-        (sets_next m (loops t) n n (suc n) a b z B K s p (expr (calls_with r) e s)
+        (sym (means.stmt-Declare-Some Unbounded n e r s))
+        (sets_next m (loops t) n n (suc n) a b z B K s p (expr Unbounded (calls_with r) e s)
         (λ x. take n s ++ x ∷ []) act same enough (omega arith) fits (inr refl)
         (λ x. ap (take z.width) (with_element-end-is n x s enough))
         (λ x. let e = length-append (take n s) (x ∷ []) in let g = length-take-le n s enough in
@@ -603,48 +607,58 @@ module _ (R : Relation) (entry : ℕ → ℕ) (acts : Actions) (callable : ℕ �
         (evaluates r m fine n e a b p inner s same enough))
     statement_runs n t k a z B K (code.assigned_to _ v e _ b _ _ _ p below inner act fits) targets r
         m fine s same enough =
-        subst (Executes m (loops t) (at_point a s) n n z B K) (sym (means.stmt-Assign v e r s))
-        (sets_next m (loops t) n v n a b z B K s p (expr (calls_with r) e s) (λ x. slice_set s v x)
+        subst (Executes m (loops t) (at_point a s) n n z B K)
+        (sym (means.stmt-Assign Unbounded v e r s))
+        (sets_next m (loops t) n v n a b z B K s p (expr Unbounded (calls_with r) e s)
+        (λ x. slice_set s v x)
         act same enough (omega (arith, below)) (omega (arith, fits)) (inl fits)
         (λ x. take-with_element-set z.width n v x s below fits enough)
         (λ x. let e = length-set s v x in omega (arith, e, enough))
         (evaluates r m fine n e a b p inner s same enough))
     statement_runs n t k a z B K (code.if_alone _ l e u _ y _ _ _ fits_y fits_z test inner) targets
         r m fine s same enough =
-        subst (Executes m (loops t) (at_point a s) n n z B K) (sym (means.stmt-If-None e u r s))
-        (branches m (loops t) n a y z z B K s n (expr (calls_with r) e s) (stmt u r s)
+        subst (Executes m (loops t) (at_point a s) n n z B K)
+        (sym (means.stmt-If-None Unbounded e u r s))
+        (branches m (loops t) n a y z z B K s n (expr Unbounded (calls_with r) e s)
+        (stmt Unbounded u r s)
         (Value (Next s)) same (omega (arith, fits_y)) fits_z
         (decides r m fine n e a y z test s same enough)
         (leads-wider m (loops u) (loops t) (at_point y s) (Flowed (at_point y s) n n z B K)
-        (stmt u r s) (let q = count.loops-If-None e u in omega (arith, q))
-        (executes-fewer m (loops u) (at_point y s) n l n z B K (stmt u r s)
+        (stmt Unbounded u r s) (let q = count.loops-If-None e u in omega (arith, q))
+        (executes-fewer m (loops u) (at_point y s) n l n z B K (stmt Unbounded u r s)
         (at_least_slots n l u y z B K inner)
         (statement_runs n u l y z B K inner targets r m fine s fits_y enough)))
         (run-none R w (at_point z s), enough))
     statement_runs n t k a z B K (code.if_else _ l l' e u v _ y x _ _ _ fits_y fits_x fits_z test
         inner other) targets r m fine s same enough =
-        subst (Executes m (loops t) (at_point a s) n n z B K) (sym (means.stmt-If-Some e u v r s))
-        (branches m (loops t) n a y x z B K s n (expr (calls_with r) e s) (stmt u r s) (stmt v r s)
+        subst (Executes m (loops t) (at_point a s) n n z B K)
+        (sym (means.stmt-If-Some Unbounded e u v r s))
+        (branches m (loops t) n a y x z B K s n (expr Unbounded (calls_with r) e s)
+        (stmt Unbounded u r s) (stmt Unbounded v r s)
         same (omega (arith, fits_y)) (omega (arith, fits_x))
         (decides r m fine n e a y x test s same enough)
         (leads-wider m (loops u) (loops t) (at_point y s) (Flowed (at_point y s) n n z B K)
-        (stmt u r s) (let q = count.loops-If-Some e u v in omega (arith, q))
-        (executes-fewer m (loops u) (at_point y s) n l n z B K (stmt u r s)
+        (stmt Unbounded u r s) (let q = count.loops-If-Some e u v in omega (arith, q))
+        (executes-fewer m (loops u) (at_point y s) n l n z B K (stmt Unbounded u r s)
         (at_least_slots n l u y z B K inner)
         (statement_runs n u l y z B K inner targets r m fine s fits_y enough)))
         (leads-wider m (loops v) (loops t) (at_point x s) (Flowed (at_point x s) n n z B K)
-        (stmt v r s) (let q = count.loops-If-Some e u v in omega (arith, q))
-        (executes-fewer m (loops v) (at_point x s) n l' n z B K (stmt v r s)
+        (stmt Unbounded v r s) (let q = count.loops-If-Some e u v in omega (arith, q))
+        (executes-fewer m (loops v) (at_point x s) n l' n z B K (stmt Unbounded v r s)
         (at_least_slots n l' v x z B K other)
         (statement_runs n v l' x z B K other targets r m fine s fits_x enough))))
     statement_runs n t k a z B K (code.while_loop _ l e u _ y _ _ _ fits_y fits_z test inner)
         targets r m fine s same enough =
-        subst (Executes m (loops t) (at_point a s) n n z B K) (sym (means.stmt-While e u r s))
+        subst (Executes m (loops t) (at_point a s) n n z B K)
+        (sym (means.stmt-While Unbounded e u r s))
         (subst (λ h. Executes m h (at_point a s) n n z B K
-        (loop (while_turn (Some e) (optional None) (stmt u)) r s)) (sym (count.loops-While e u))
-        (loops_run n (loops u) a z B K (while_turn (Some e) (optional None) (stmt u))
+        (loop (while_turn Unbounded (Some e) (optional None) (stmt Unbounded u)) r s))
+        (sym (count.loops-While e u))
+        (loops_run n (loops u) a z B K (while_turn Unbounded (Some e) (optional None)
+        (stmt Unbounded u))
         (λ r' m' fine' s' enough'.
-        while_runs m' (loops u) n l a y a z B K s' (expr (calls_with r') e s') (stmt u r' s')
+        while_runs m' (loops u) n l a y a z B K s' (expr Unbounded (calls_with r') e s')
+        (stmt Unbounded u r' s')
         (λ c. on_value (optional None r' c) after_change) (at_least_slots n l u y a z a inner)
         same (omega (arith, fits_y)) fits_z enough'
         (decides r' m' fine' n e a y z test s' same enough')
@@ -653,11 +667,15 @@ module _ (R : Relation) (entry : ℕ → ℕ) (acts : Actions) (callable : ℕ �
         (λ c enough_c. (run-none R w (at_point a c), enough_c))) r m fine s enough))
     statement_runs n t k a z B K (code.do_loop _ l e u _ c _ _ _ fits_c fits_z inner test) targets r
         m fine s same enough =
-        subst (Executes m (loops t) (at_point a s) n n z B K) (sym (means.stmt-DoWhile u e r s))
-        (subst (λ h. Executes m h (at_point a s) n n z B K (loop (do_turn e (stmt u)) r s))
+        subst (Executes m (loops t) (at_point a s) n n z B K)
+        (sym (means.stmt-DoWhile Unbounded u e r s))
+        (subst (λ h. Executes m h (at_point a s) n n z B K
+        (loop (do_turn Unbounded e (stmt Unbounded u)) r s))
         (sym (count.loops-DoWhile u e))
-        (loops_run n (loops u) a z B K (do_turn e (stmt u)) (λ r' m' fine' s' enough'.
-        do_runs m' (loops u) n l a c z B K s' (λ c'. expr (calls_with r') e c') (stmt u r' s')
+        (loops_run n (loops u) a z B K (do_turn Unbounded e (stmt Unbounded u))
+        (λ r' m' fine' s' enough'.
+        do_runs m' (loops u) n l a c z B K s' (λ c'. expr Unbounded (calls_with r') e c')
+        (stmt Unbounded u r' s')
         (at_least_slots n l u a c z c inner) fits_c (omega (arith, same)) fits_z
         (statement_runs n u l a c z c inner (record
         { breaks = fits_z; continues = omega (arith, fits_c) }) r' m' fine' s' same enough')
@@ -666,14 +684,17 @@ module _ (R : Relation) (entry : ℕ → ℕ) (acts : Actions) (callable : ℕ �
         fits_y fits_z begun test_code inner changed) targets r m fine s same enough =
         let g = loops u + of_part (option_map loops change) in
         let whole = total (map loops first) + suc g in
-        let turn = while_turn test (optional (option_map stmt change)) (stmt u) in
+        let turn = while_turn Unbounded test (optional (option_map (stmt Unbounded) change))
+        (stmt Unbounded u) in
         subst (Executes m (loops t) (at_point a s) n n z B K) (sym (for_is first test change u r s))
         (subst (λ q. Executes m q (at_point a s) n n z B K
-        (on_value (on_value (in_order (map stmt first) r s) (on_next (loop turn r)))
+        (on_value (on_value (in_order (map (stmt Unbounded) first) r s) (on_next (loop turn r)))
         (leave (length s)))) (sym (for_count first test change u))
         (leaves m whole (at_point a s) n i (length s) z B K below enough fits_z targets.breaks
-        targets.continues (on_value (in_order (map stmt first) r s) (on_next (loop turn r)))
-        (nexts m whole (at_point a s) n i i h z B K (in_order (map stmt first) r s) (loop turn r)
+        targets.continues (on_value (in_order (map (stmt Unbounded) first) r s)
+        (on_next (loop turn r)))
+        (nexts m whole (at_point a s) n i i h z B K (in_order (map (stmt Unbounded) first) r s)
+        (loop turn r)
         below
         (begun_runs n first i a h B K g begun targets r m fine s same enough)
         (λ s1 enough1. leads-wider m (suc g) whole (at_point h s1)
@@ -681,16 +702,17 @@ module _ (R : Relation) (entry : ℕ → ℕ) (acts : Actions) (callable : ℕ �
         (loops_run i g h z B K turn (λ r' m' fine' s' enough'.
         subst (λ o. Leads R w m' g (at_point h s') (Turned (at_point h s') i h z B K)
         (on_value o (λ x. if is_zero x then Value (Ends (Next s')) else
-        on_value (stmt u r' s') (after_body
-        (λ t'. on_value (optional (option_map stmt change) r' t') after_change)))))
+        on_value (stmt Unbounded u r' s') (after_body
+        (λ t'. on_value (optional (option_map (stmt Unbounded) change) r' t') after_change)))))
         (sym (condition_is test r' s'))
-        (while_runs m' g i l h y c z B K s' (expr (calls_with r') (test_or_one test) s')
-        (stmt u r' s') (λ t'. on_value (optional (option_map stmt change) r' t') after_change)
+        (while_runs m' g i l h y c z B K s' (expr Unbounded (calls_with r') (test_or_one test) s')
+        (stmt Unbounded u r' s') (λ t'. on_value
+        (optional (option_map (stmt Unbounded) change) r' t') after_change)
         (at_least_slots i l u y c z c inner) wide (omega (arith, fits_y))
         (omega (arith, fits_z, below)) enough'
         (decides r' m' fine' i (test_or_one test) h y z test_code s' wide enough')
         (leads-wider m' (loops u) g (at_point y s') (Flowed (at_point y s') i l c z c)
-        (stmt u r' s') (omega arith)
+        (stmt Unbounded u r' s') (omega arith)
         (statement_runs i u l y c z c inner (record {
           breaks = omega (arith, fits_z, below);
           continues =
@@ -701,36 +723,41 @@ module _ (R : Relation) (entry : ℕ → ℕ) (acts : Actions) (callable : ℕ �
         enough1)))))
     statement_runs n t k a z B K (code.break_out _ token _ _ _ _ act) targets r m fine s same enough
         =
-        subst (Executes m (loops t) (at_point a s) n n z B K) (sym (means.stmt-Break token r s))
+        subst (Executes m (loops t) (at_point a s) n n z B K)
+        (sym (means.stmt-Break Unbounded token r s))
         (goes a B s n act same enough targets.breaks, enough)
     statement_runs n t k a z B K (code.go_on _ token _ _ _ _ act) targets r m fine s same enough =
-        subst (Executes m (loops t) (at_point a s) n n z B K) (sym (means.stmt-Continue token r s))
+        subst (Executes m (loops t) (at_point a s) n n z B K)
+        (sym (means.stmt-Continue Unbounded token r s))
         (goes a K s n act same enough targets.continues, enough)
     statement_runs n t k a z B K (code.returned _ e _ b _ _ _ p inner act) targets r m fine s same
         enough =
-        subst (Executes m (loops t) (at_point a s) n n z B K) (sym (means.stmt-Return e r s))
-        (returns_value m (loops t) n a b z B K s p (expr (calls_with r) e s) act
+        subst (Executes m (loops t) (at_point a s) n n z B K)
+        (sym (means.stmt-Return Unbounded e r s))
+        (returns_value m (loops t) n a b z B K s p (expr Unbounded (calls_with r) e s) act
         (evaluates r m fine n e a b p inner s same enough))
     statement_runs n t k a z B K (code.block _ i ts _ _ _ _ below fits_z inner) targets r m fine s
         same enough =
-        subst (Executes m (loops t) (at_point a s) n n z B K) (sym (means.stmt-Block ts r s))
+        subst (Executes m (loops t) (at_point a s) n n z B K)
+        (sym (means.stmt-Block Unbounded ts r s))
         (subst (λ h. Executes m h (at_point a s) n n z B K
-        (on_value (in_order (map stmt ts) r s) (leave (length s)))) (sym (count.loops-Block ts))
+        (on_value (in_order (map (stmt Unbounded) ts) r s) (leave (length s))))
+        (sym (count.loops-Block ts))
         (leaves m (total (map loops ts)) (at_point a s) n i (length s) z B K below enough fits_z
-        targets.breaks targets.continues (in_order (map stmt ts) r s)
+        targets.breaks targets.continues (in_order (map (stmt Unbounded) ts) r s)
         (list_runs n ts i a z B K inner targets r m fine s same enough)))
 
     begun_runs : (n : ℕ) (first : List Stmt) (i : ℕ) (a h B K : Point) (g : ℕ) →
         IsBegun acts callable n first i a h B K → Targets n B K → (r : Rounds) (m : ℕ) → Fine r m →
         (s : State)
         → a.width ≡ n → n ≤ length s → Executes m (total (map loops first) + suc g) (at_point a s) n
-        i h B K (in_order (map stmt first) r s)
+        i h B K (in_order (map (stmt Unbounded) first) r s)
     begun_runs n first i a h B K g (code.no_first _ _ _ _) targets r m fine s same enough =
         (run-none R w (at_point a s), enough)
     begun_runs n first i a h B K g (code.some_first _ _ t ts _ _ _ _ inner) targets r m fine s same
         enough =
         leads-wider m (total (map loops first)) (total (map loops first) + suc g) (at_point a s)
-        (Flowed (at_point a s) n i h B K) (in_order (map stmt first) r s) (omega arith)
+        (Flowed (at_point a s) n i h B K) (in_order (map (stmt Unbounded) first) r s) (omega arith)
         (list_runs n (t ∷ ts) i a h B K inner targets r m fine s same enough)
 
     change_runs : (i : ℕ) (change : Option Stmt) (c h z B K : Point) (u : ℕ) →
@@ -738,37 +765,43 @@ module _ (R : Relation) (entry : ℕ → ℕ) (acts : Actions) (callable : ℕ �
         (t : State)
         → i ≤ length t → Leads R w m (u + of_part (option_map loops change)) (at_point c t)
         (Turning (at_point c t) i h z B K)
-        (on_value (optional (option_map stmt change) r t) after_change)
+        (on_value (optional (option_map (stmt Unbounded) change) r t) after_change)
     change_runs i change c h z B K u (code.no_change _ _ _ _) targets r m fine t enough =
         (run-none R w (at_point c t), enough)
     change_runs i change c h z B K u (code.some_change _ l v _ _ _ _ same inner) targets r m fine t
         enough =
-        changes m (u + loops v) i l c h z B K t (stmt v r t) (at_least_slots i l v c h B K inner)
+        changes m (u + loops v) i l c h z B K t (stmt Unbounded v r t)
+        (at_least_slots i l v c h B K inner)
         (leads-wider m (loops v) (u + loops v) (at_point c t) (Flowed (at_point c t) i l h B K)
-        (stmt v r t) (omega arith) (statement_runs i v l c h B K inner targets r m fine t same
+        (stmt Unbounded v r t) (omega arith) (statement_runs i v l c h B K inner targets r m fine t
+        same
         enough))
 
     pub list_runs : (n : ℕ) (ts : List Stmt) (k : ℕ) (a z B K : Point) →
         IsList acts callable n ts k a z B K → Targets n B K → (r : Rounds) (m : ℕ) → Fine r m →
         (s : State)
         → a.width ≡ n → n ≤ length s → Executes m (total (map loops ts)) (at_point a s) n k z B K
-        (in_order (map stmt ts) r s)
+        (in_order (map (stmt Unbounded) ts) r s)
     list_runs n ts k a z B K (code.nothing _ _ _ _ _ act fits) targets r m fine s same enough =
         (goes a z s n act same enough fits, enough)
     list_runs n ts k a z B K (code.last _ _ t _ _ _ _ inner) targets r m fine s same enough =
-        subst (Executes m (loops t + 0) (at_point a s) n k z B K) (sym (last_is (stmt t r s) r))
+        subst (Executes m (loops t + 0) (at_point a s) n k z B K)
+        (sym (last_is (stmt Unbounded t r s) r))
         (leads-wider m (loops t) (loops t + 0) (at_point a s) (Flowed (at_point a s) n k z B K)
-        (stmt t r s) (omega arith) (statement_runs n t k a z B K inner targets r m fine s same
+        (stmt Unbounded t r s) (omega arith) (statement_runs n t k a z B K inner targets r m fine s
+        same
         enough))
     list_runs n ts k a z B K (code.more _ l _ t u us _ c _ _ _ below wide inner rest) targets r m
         fine s same enough =
-        nexts m (loops t + total (map loops (u ∷ us))) (at_point a s) n l k c z B K (stmt t r s)
-        (in_order (map stmt (u ∷ us)) r) below
+        nexts m (loops t + total (map loops (u ∷ us))) (at_point a s) n l k c z B K
+        (stmt Unbounded t r s)
+        (in_order (map (stmt Unbounded) (u ∷ us)) r) below
         (leads-wider m (loops t) (loops t + total (map loops (u ∷ us))) (at_point a s)
-        (Flowed (at_point a s) n l c B K) (stmt t r s) (omega arith)
+        (Flowed (at_point a s) n l c B K) (stmt Unbounded t r s) (omega arith)
         (statement_runs n t l a c B K inner targets r m fine s same enough))
         (λ s' enough'. leads-wider m (total (map loops (u ∷ us)))
         (loops t + total (map loops (u ∷ us))) (at_point c s')
-        (Flowed (at_point c s') l k z B K) (in_order (map stmt (u ∷ us)) r s') (omega arith)
+        (Flowed (at_point c s') l k z B K) (in_order (map (stmt Unbounded) (u ∷ us)) r s')
+        (omega arith)
         (list_runs l (u ∷ us) k c z B K rest (targets-wider n l B K below targets) r m fine s' wide
         enough'))

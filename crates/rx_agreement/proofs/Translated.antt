@@ -20,7 +20,7 @@ use Rattle.rx_term.proofs.AssignedLaws.{values-assigned}
 use Rattle.rx_term.proofs.Equations.{ground-Call}
 use Rattle.c_ast.specs.Scoped.{is_scoped, parameter_counts}
 use Rattle.c_ast.specs.declared.program.Resolved.{Resolved}
-use Rattle.c_meaning.specs.Outcomes.{Outcome, Value, DivisionError, IsAnswer}
+use Rattle.c_meaning.specs.Outcomes.{Division, Outcome, Value, Error, IsAnswer}
 use Rattle.rx_code.specs.Programs.{entry_of, program_code}
 use Rattle.rx_code.specs.Reached.{IsFirst, IsSecond, Reached}
 use Rattle.rx_code.specs.Translation.{IsTranslation, goal_at}
@@ -97,7 +97,7 @@ module _ (program : Resolved) (scoped : is_scoped program ≡ true) (f g : ℕ) 
       go (stack.Fail c) result fits =
           let one = one_failure program scoped f g parts first second t in
           let low = fits.0 in let high = fits.1 in
-          (DivisionError, tt, ap stack.Fail (omega (arith, low, high, one)))
+          (Error Division, tt, ap stack.Fail (omega (arith, low, high, one)))
       go (stack.Call s xs) result fits = absurd result
       go (stack.Frame s xs inner) result fits = absurd result
 

@@ -23,7 +23,9 @@ use Rattle.c_ast.specs.declared.expr.UnOp.TheVariants as Sign
 use Rattle.c_ast.specs.declared.expr.BinOp.{BinOp}
 use Rattle.c_ast.specs.declared.expr.BinOp.TheVariants as Op
 use Rattle.c_ast.specs.declared.expr.Expr.{Expr}
-use Rattle.c_meaning.specs.Outcomes.{Outcome, Value, DivisionError, More, on_value, State}
+use Rattle.c_ast.specs.declared.integers.Integers.TheVariants.{Unbounded}
+use Rattle.c_meaning.specs.Outcomes as meaning
+use Rattle.c_meaning.specs.Outcomes.{Outcome, Value, Error, More, on_value, State}
 use Rattle.c_meaning.specs.Expressions.{Calls, slot, is_zero, truth, unary, binary, values, expr}
 use Rattle.c_meaning.proofs.Equations.{expr-Lit, expr-Var, expr-Unary, expr-Binary, expr-Choose, expr-Apply}
 use Rattle.rx_term.specs.Assigned.{assigned}
@@ -48,7 +50,7 @@ value-difference α p q =
 -- an outcome whose integer, if there is one, is 0 or 1
 abbrev Truthful : Outcome ℤ → Type 0
 Truthful (Value x) = x ≡ truth (not (is_zero x))
-Truthful DivisionError = Unit {0}
+Truthful (Error error) = Unit {0}
 Truthful More = Unit {0}
 
 truthful-truth : (b : Bool) → Truthful (Value (truth b))
@@ -58,31 +60,32 @@ truthful-truth false = refl
 truthful-on : {A : Type 0} (o : Outcome A) (g : A → Outcome ℤ) → ((x : A) → Truthful (g x)) →
     Truthful (on_value o g)
 truthful-on (Value x) g each = each x
-truthful-on DivisionError g each = tt
+truthful-on (Error error) g each = tt
 truthful-on More g each = tt
 
 truthful-if : (t : Bool) (o u : Outcome ℤ) → Truthful o → Truthful u → Truthful (if t then o else u)
 truthful-if true o u first second = first
 truthful-if false o u first second = second
 
-logical_truthful : (calls : Calls) (e : Expr) (s : State) → IsLogical e → Truthful (expr calls e s)
+logical_truthful : (calls : Calls) (e : Expr) (s : State) → IsLogical e →
+    Truthful (expr Unbounded calls e s)
 logical_truthful calls e s (code.comparison op f g p q row is) =
-    subst Truthful (sym (expr-Binary calls op f g s ∙
-    comparison_outcome op p q row (expr calls f s) (expr calls g s) is))
-    (truthful-on (expr calls f s) _ (λ x. truthful-on (expr calls g s) _
+    subst Truthful (sym (expr-Binary Unbounded calls op f g s ∙
+    comparison_outcome op p q row (expr Unbounded calls f s) (expr Unbounded calls g s) is))
+    (truthful-on (expr Unbounded calls f s) _ (λ x. truthful-on (expr Unbounded calls g s) _
     (λ y. subst Truthful (sym (comparison_value op p q row is x y))
     (truthful-truth (test_of op x y)))))
 logical_truthful calls e s (code.negation f) =
-    subst Truthful (sym (expr-Unary calls Sign.Not f s))
-    (truthful-on (expr calls f s) _ (λ x. truthful-truth (is_zero x)))
+    subst Truthful (sym (expr-Unary Unbounded calls Sign.Not f s))
+    (truthful-on (expr Unbounded calls f s) _ (λ x. truthful-truth (is_zero x)))
 logical_truthful calls e s (code.conjunction f g) =
-    subst Truthful (sym (expr-Binary calls Op.AndAlso f g s))
-    (truthful-on (expr calls f s) _ (λ x. truthful-if (is_zero x) _ _ refl
-    (truthful-on (expr calls g s) _ (λ y. truthful-truth (not (is_zero y))))))
+    subst Truthful (sym (expr-Binary Unbounded calls Op.AndAlso f g s))
+    (truthful-on (expr Unbounded calls f s) _ (λ x. truthful-if (is_zero x) _ _ refl
+    (truthful-on (expr Unbounded calls g s) _ (λ y. truthful-truth (not (is_zero y))))))
 logical_truthful calls e s (code.disjunction f g) =
-    subst Truthful (sym (expr-Binary calls Op.OrElse f g s))
-    (truthful-on (expr calls f s) _ (λ x. truthful-if (is_zero x) _ _
-    (truthful-on (expr calls g s) _ (λ y. truthful-truth (not (is_zero y)))) refl))
+    subst Truthful (sym (expr-Binary Unbounded calls Op.OrElse f g s))
+    (truthful-on (expr Unbounded calls f s) _ (λ x. truthful-if (is_zero x) _ _
+    (truthful-on (expr Unbounded calls g s) _ (λ y. truthful-truth (not (is_zero y)))) refl))
 
 -- more integers at the end
 over-more : (n : ℕ) (s xs ys : List ℤ) → Over n s xs → Over n s (xs ++ ys)
@@ -171,7 +174,7 @@ module _ (R : Relation) (entry : ℕ → ℕ) (acts : Actions) (callable : ℕ �
   joint_value : (op : BinOp) (a b c : Point) (xs : List ℤ) (p q r : Body) (o u : Outcome ℤ) →
       IsArithmetic op p q r
       → Evaluates a b xs p o → ((x : ℤ) (come : Comes R w a b xs p x) →
-      Evaluates b c (xs ++ come.more) q u) → Evaluates a c xs r (binary op o u)
+      Evaluates b c (xs ++ come.more) q u) → Evaluates a c xs r (binary Unbounded op o u)
   joint_value op a b c xs p q r o u (code.sum _ _) first second =
       two a b c xs p q r o u ◌+ℤ◌ (λ α. value-body_sum α p q) first second
   joint_value op a b c xs p q r o u (code.difference _ _) first second =
@@ -196,18 +199,18 @@ module _ (R : Relation) (entry : ℕ → ℕ) (acts : Actions) (callable : ℕ �
   }
 
   plus_runs : (a b : Point) (xs : List ℤ) (p : Body) (o : Outcome ℤ) → Evaluates a b xs p o →
-      Evaluates a b xs p (on_value o (λ x. Value (unary Sign.Plus x)))
+      Evaluates a b xs p (on_value o (unary Unbounded Sign.Plus))
   plus_runs a b xs p (Value x) come = come
-  plus_runs a b xs p DivisionError there = there
+  plus_runs a b xs p (Error error) there = there
   plus_runs a b xs p More there = there
 
   minus_runs : (a b : Point) (xs : List ℤ) (q : Body) (o : Outcome ℤ) → Evaluates a b xs q o →
-      Evaluates a b xs (scaled_by (negsuc 0) q) (on_value o (λ x. Value (unary Sign.Minus x)))
+      Evaluates a b xs (scaled_by (negsuc 0) q) (on_value o (unary Unbounded Sign.Minus))
   minus_runs a b xs q (Value x) come =
       other a b xs q (scaled_by (negsuc 0) q) x (neg_ℤ x) come
       (λ zs. let e = value-scaled_by (assigned ((xs ++ come.more) ++ zs)) (negsuc 0) q in
       let f = come.stands zs in omega (arith, ints, e, f))
-  minus_runs a b xs q DivisionError there = there
+  minus_runs a b xs q (Error error) there = there
   minus_runs a b xs q More there = there
 
   -- a jump with all variables
@@ -227,10 +230,12 @@ module _ (R : Relation) (entry : ℕ → ℕ) (acts : Actions) (callable : ℕ �
       acts b (Divide d p q c) → c.width ≡ suc b.width
       → length ys ≡ b.width → Stands R w p ys x → Stands R w q ys y
       → (t : Bool) (z : ℤ) → is_zero y ≡ t → division_result d x y ≡ (if t then pos 0 else z)
-      → Evaluates b c ys (variable b.width) (if t then DivisionError else Value z)
-  divides d b c ys p q x y act wide long px qy true z t same =
-      on-run R w (run-step R w ((does b (Divide d p q c) act ys long).0
-      (nil ys q y qy ∙ zero_is y t)))
+      → Evaluates b c ys (variable b.width) (if t then Error meaning.Division else Value z)
+  divides d b c ys p q x y act wide long px qy true z t same = (
+    refl,
+    on-run R w (run-step R w ((does b (Divide d p q c) act ys long).0
+        (nil ys q y qy ∙ zero_is y t))),
+  )
   divides d b c ys p q x y act wide long px qy false z t same =
       let step = (does b (Divide d p q c) act ys long).1
       (λ e. nonzero y t (sym (nil ys q y qy) ∙ e)) in
@@ -245,14 +250,15 @@ module _ (R : Relation) (entry : ℕ → ℕ) (acts : Actions) (callable : ℕ �
   division_step : (op : BinOp) (d : Division) (b c : Point) (ys : List ℤ) (p q : Body) (x y : ℤ) →
       IsDivision op d → acts b (Divide d p q c) → c.width ≡ suc b.width
       → length ys ≡ b.width → Stands R w p ys x → Stands R w q ys y →
-      Evaluates b c ys (variable b.width) (binary op (Value x) (Value y))
+      Evaluates b c ys (variable b.width) (binary Unbounded op (Value x) (Value y))
   division_step op d b c ys p q x y code.of_quotient act wide long px qy =
       divides d b c ys p q x y act wide long px qy (is_zero y) (int_div x y) refl refl
   division_step op d b c ys p q x y code.of_remainder act wide long px qy =
       divides d b c ys p q x y act wide long px qy (is_zero y) (int_rem x y) refl refl
 
-  division_value : (op : BinOp) (d : Division) (o u : Outcome ℤ) → IsDivision op d → binary op o u ≡
-      on_value o (λ x. on_value u (λ y. binary op (Value x) (Value y)))
+  division_value : (op : BinOp) (d : Division) (o u : Outcome ℤ) → IsDivision op d →
+      binary Unbounded op o u ≡
+      on_value o (λ x. on_value u (λ y. binary Unbounded op (Value x) (Value y)))
   division_value op d o u code.of_quotient = refl
   division_value op d o u code.of_remainder = refl
 
@@ -260,25 +266,26 @@ module _ (R : Relation) (entry : ℕ → ℕ) (acts : Actions) (callable : ℕ �
   division_runs : (op : BinOp) (d : Division) (a b c z : Point) (xs : List ℤ) (p q : Body)
       (o u : Outcome ℤ) → IsDivision op d → acts c (Divide d p q z) → z.width ≡ suc c.width
       → Evaluates a b xs p o → ((x : ℤ) (come : Comes R w a b xs p x) →
-      Evaluates b c (xs ++ come.more) q u) → Evaluates a z xs (variable c.width) (binary op o u)
+      Evaluates b c (xs ++ come.more) q u) → Evaluates a z xs (variable c.width)
+      (binary Unbounded op o u)
   division_runs op d a b c z xs p q o u is act wide first second =
       subst (Evaluates a z xs (variable c.width)) (sym (division_value op d o u is))
       (leads-on R w m 0 (stack.Call a.symbol xs) (Comes R w a b xs p)
       (Comes R w a z xs (variable c.width)) o
-      (λ x. on_value u (λ y. binary op (Value x) (Value y))) first (λ x come.
+      (λ x. on_value u (λ y. binary Unbounded op (Value x) (Value y))) first (λ x come.
       leads-after R w m 0 (stack.Call a.symbol xs) (stack.Call b.symbol (xs ++ come.more))
       (Comes R w b z (xs ++ come.more) (variable c.width)) (Comes R w a z xs (variable c.width))
-      (on_value u (λ y. binary op (Value x) (Value y))) come.run
+      (on_value u (λ y. binary Unbounded op (Value x) (Value y))) come.run
       (λ k next. one_after a b z xs p (variable c.width) x k come next)
       (leads-on R w m 0 (stack.Call b.symbol (xs ++ come.more)) (Comes R w b c (xs ++ come.more) q)
       (Comes R w b z (xs ++ come.more) (variable c.width)) u
-      (λ y. binary op (Value x) (Value y)) (second x come)
+      (λ y. binary Unbounded op (Value x) (Value y)) (second x come)
       (λ y there.
       leads-after R w m 0 (stack.Call b.symbol (xs ++ come.more))
       (stack.Call c.symbol ((xs ++ come.more) ++ there.more))
       (Comes R w c z ((xs ++ come.more) ++ there.more) (variable c.width))
       (Comes R w b z (xs ++ come.more) (variable c.width))
-      (binary op (Value x) (Value y)) there.run
+      (binary Unbounded op (Value x) (Value y)) there.run
       (λ k next. one_after b c z (xs ++ come.more) q (variable c.width) y k there next)
       (division_step op d c z ((xs ++ come.more) ++ there.more) p q x y is act wide there.long
       (still p (xs ++ come.more) x there.more come.stands) there.stands)))))
@@ -367,12 +374,16 @@ module _ (R : Relation) (entry : ℕ → ℕ) (acts : Actions) (callable : ℕ �
           (longer_point b z ys k come.long wide)
           ((does r (Resume z) resumes ys (come.long ∙ sym same_width)).0 k)))))) in
           after_call vs come k (next_place b z ys k come.long wide run)
-      go vs come DivisionError back =
+      go vs come (Error error) back =
           let ys = xs ++ come.more in
-          run-trans R w come.run (on-run R w (on-then R w (enter vs come)
-          (run-trans R w (inside vs ys (stack.Fail 1) back)
+          let failed = subst (λ k. Runs R w (stack.Call (entry f) vs) (stack.Fail k)) back.0
+          back.1 in
+          let run = run-trans R w come.run (on-run R w (on-then R w (enter vs come)
+          (run-trans R w (inside vs ys (stack.Fail 1) failed)
           (on-run R w (run-step R w (does r (Resume z) resumes ys
-          (come.long ∙ sym same_width)).1)))))
+          (come.long ∙ sym same_width)).1))))) in
+          let P : ℕ → Type 0 = λ k. Runs R w (stack.Call a.symbol xs) (stack.Fail k) in
+          (back.0, subst P (sym back.0) run)
       go vs come More back =
           long-after R w come.run (long_call vs (xs ++ come.more) (enter vs come) back)
 
@@ -409,7 +420,7 @@ module _ (R : Relation) (entry : ℕ → ℕ) (acts : Actions) (callable : ℕ �
       → y.width ≤ length xs → z.width ≤ length xs → length (xs ++ more) ≡ c.width →
       Runs R w (stack.Call a.symbol xs) (stack.Call c.symbol (xs ++ more))
       → Stands R w p (xs ++ more) x → Stands R w q (xs ++ more) v →
-      Decides a y z xs (binary op (Value x) (Value v))
+      Decides a y z xs (binary Unbounded op (Value x) (Value v))
   test_runs op a c y z xs more p q row x v is act fits_y fits_z long run px qv =
       subst (Decides a y z xs) (sym (comparison_value op p q row is x v)) (go (test_of op x v) refl)
     where
@@ -433,12 +444,12 @@ module _ (R : Relation) (entry : ℕ → ℕ) (acts : Actions) (callable : ℕ �
       (o u : Outcome ℤ) → IsComparison op p q row → acts c (Test row y z)
       → y.width ≤ length xs → z.width ≤ length xs
       → Evaluates a b xs p o → ((x : ℤ) (come : Comes R w a b xs p x) →
-      Evaluates b c (xs ++ come.more) q u) → Decides a y z xs (binary op o u)
+      Evaluates b c (xs ++ come.more) q u) → Decides a y z xs (binary Unbounded op o u)
   comparison_runs op a b c y z xs p q row o u is act fits_y fits_z first second =
       subst (Decides a y z xs) (sym (comparison_outcome op p q row o u is))
       (leads-on R w m 0 (stack.Call a.symbol xs) (Comes R w a b xs p)
       (Forked R w (stack.Call a.symbol xs) y z xs) o
-      (λ x. on_value u (λ v. binary op (Value x) (Value v))) first (λ x come.
+      (λ x. on_value u (λ v. binary Unbounded op (Value x) (Value v))) first (λ x come.
       back x come u (second x come)))
     where
       fork : ℤ → Type 0
@@ -446,7 +457,7 @@ module _ (R : Relation) (entry : ℕ → ℕ) (acts : Actions) (callable : ℕ �
 
       back : (x : ℤ) (come : Comes R w a b xs p x) (u : Outcome ℤ) →
           Evaluates b c (xs ++ come.more) q u →
-          Decides a y z xs (on_value u (λ v. binary op (Value x) (Value v)))
+          Decides a y z xs (on_value u (λ v. binary Unbounded op (Value x) (Value v)))
       back x come (Value v) there =
           let same : (xs ++ come.more) ++ there.more ≡ xs ++ (come.more ++ there.more) =
           append_assoc xs come.more there.more in
@@ -457,7 +468,7 @@ module _ (R : Relation) (entry : ℕ → ℕ) (acts : Actions) (callable : ℕ �
           there.run))
           (subst (λ l. Stands R w p l x) same (still p (xs ++ come.more) x there.more come.stands))
           (subst (λ l. Stands R w q l v) same there.stands)
-      back x come DivisionError there = run-trans R w come.run there
+      back x come (Error error) there = (there.0, run-trans R w come.run there.1)
       back x come More there = long-after R w come.run there
 
   -- a value that is tested
@@ -481,7 +492,7 @@ module _ (R : Relation) (entry : ℕ → ℕ) (acts : Actions) (callable : ℕ �
       go false e = subst (RunsOn R w (stack.Call a.symbol xs)) (same_point y xs come.more fits_y)
           (run-on R w come.run (run-step R w ((does b (Test (Says.Ne p) y z) act ys come.long).0
           (λ h. nonzero x e (sym is ∙ h)))))
-  tested_runs a b y z xs p DivisionError act fits_y fits_z there = there
+  tested_runs a b y z xs p (Error error) act fits_y fits_z there = there
   tested_runs a b y z xs p More act fits_y fits_z there = there
 
   swapped : (t : Bool) (A B : Type 0) → Branch t A B → Branch (is_zero (truth t)) B A
@@ -491,7 +502,7 @@ module _ (R : Relation) (entry : ℕ → ℕ) (acts : Actions) (callable : ℕ �
   negated_runs : (a y z : Point) (xs : List ℤ) (o : Outcome ℤ) → Decides a z y xs o →
       Decides a y z xs (on_value o (λ x. Value (truth (is_zero x))))
   negated_runs a y z xs (Value x) fork = swapped (is_zero x) _ _ fork
-  negated_runs a y z xs DivisionError there = there
+  negated_runs a y z xs (Error error) there = there
   negated_runs a y z xs More there = there
 
   -- an integer that is 0 or 1 as it is false or true
@@ -511,11 +522,12 @@ module _ (R : Relation) (entry : ℕ → ℕ) (acts : Actions) (callable : ℕ �
           (RunsOn R w (stack.Call a.symbol xs) (at_point y xs))
       go true there = on-then R w run (on-run R w there)
       go false there = on-then R w run (on-run R w there)
-  decided_after a m y z xs DivisionError run there = run-trans R w (on-run R w run) there
+  decided_after a m y z xs (Error error) run there =
+      (there.0, run-trans R w (on-run R w run) there.1)
   decided_after a m y z xs More run there = long-after R w (on-run R w run) there
 
   both_runs : (a m y z : Point) (xs : List ℤ) (o u : Outcome ℤ) → length xs ≡ m.width →
-      Decides a m z xs o → (Decides m y z xs u) → Decides a y z xs (binary Op.AndAlso o u)
+      Decides a m z xs o → (Decides m y z xs u) → Decides a y z xs (binary Unbounded Op.AndAlso o u)
   both_runs a m y z xs (Value x) u long fork second = go (is_zero x) fork
     where
       go : (t : Bool) → Branch t (RunsOn R w (stack.Call a.symbol xs) (at_point z xs))
@@ -526,11 +538,11 @@ module _ (R : Relation) (entry : ℕ → ℕ) (acts : Actions) (callable : ℕ �
       go false there =
           decided_after a m y z xs u (subst (RunsOn R w (stack.Call a.symbol xs))
           (whole_point m xs long) there) second
-  both_runs a m y z xs DivisionError u long there second = there
+  both_runs a m y z xs (Error error) u long there second = there
   both_runs a m y z xs More u long there second = there
 
   either_runs : (a m y z : Point) (xs : List ℤ) (o u : Outcome ℤ) → length xs ≡ m.width →
-      Decides a y m xs o → (Decides m y z xs u) → Decides a y z xs (binary Op.OrElse o u)
+      Decides a y m xs o → (Decides m y z xs u) → Decides a y z xs (binary Unbounded Op.OrElse o u)
   either_runs a m y z xs (Value x) u long fork second = go (is_zero x) fork
     where
       go : (t : Bool) → Branch t (RunsOn R w (stack.Call a.symbol xs) (at_point m xs))
@@ -541,7 +553,7 @@ module _ (R : Relation) (entry : ℕ → ℕ) (acts : Actions) (callable : ℕ �
           decided_after a m y z xs u (subst (RunsOn R w (stack.Call a.symbol xs))
           (whole_point m xs long) there) second
       go false there = there
-  either_runs a m y z xs DivisionError u long there second = there
+  either_runs a m y z xs (Error error) u long there second = there
   either_runs a m y z xs More u long there second = there
 
   -- a condition whose integer is wanted: it is 1 at y and 0 at z
@@ -576,7 +588,7 @@ module _ (R : Relation) (entry : ℕ → ℕ) (acts : Actions) (callable : ℕ �
       go false is there =
           subst (Comes R w a b xs (variable a.width)) (sym is)
           (set y (pos 1) forks.first at_y there)
-  truth_runs a y z b xs DivisionError forks at_y at_z long truthful there = there
+  truth_runs a y z b xs (Error error) forks at_y at_z long truthful there = there
   truth_runs a y z b xs More forks at_y at_z long truthful there = there
 
   -- one of two values, by a condition
@@ -597,9 +609,11 @@ module _ (R : Relation) (entry : ℕ → ℕ) (acts : Actions) (callable : ℕ �
           next_place a b xs k long forks.both (on-run R w (on-then R w to_c (run-trans R w come.run
           (on-run R w (set_runs a c' b xs come.more r k act long come.long forks.both
           come.stands)))))
-      via c c' r DivisionError same act run there =
-          run-trans R w (on-run R w (subst (RunsOn R w (stack.Call a.symbol xs))
-          (whole_point c xs (long ∙ sym same)) run)) there
+      via c c' r (Error error) same act run there = (
+        there.0,
+        run-trans R w (on-run R w (subst (RunsOn R w (stack.Call a.symbol xs))
+            (whole_point c xs (long ∙ sym same)) run)) there.1,
+      )
       via c c' r More same act run there =
           long-after R w (on-run R w (subst (RunsOn R w (stack.Call a.symbol xs))
           (whole_point c xs (long ∙ sym same)) run)) there
@@ -609,7 +623,7 @@ module _ (R : Relation) (entry : ℕ → ℕ) (acts : Actions) (callable : ℕ �
           → Evaluates a b xs (variable a.width) (if t then v else u)
       go true there = via z z' q v forks.second at_z there second
       go false there = via y y' p u forks.first at_y there first
-  choice_runs a y y' z z' b xs p q DivisionError u v forks at_y at_z long there first second = there
+  choice_runs a y y' z z' b xs p q (Error error) u v forks at_y at_z long there first second = there
   choice_runs a y y' z z' b xs p q More u v forks at_y at_z long there first second = there
 
   -- the arguments
@@ -641,55 +655,58 @@ module _ (R : Relation) (entry : ℕ → ℕ) (acts : Actions) (callable : ℕ �
                 (still p (xs ++ come.more) x there.more come.stands zs)
                 ∙ ap (λ l. x ∷ l) (there.stand zs));
           }
-      go DivisionError there = run-trans R w come.run there
+      go (Error error) there = (there.0, run-trans R w come.run there.1)
       go More there = long-after R w come.run there
-  first_and_rest a b c xs p ps DivisionError u there rest = there
+  first_and_rest a b c xs p ps (Error error) u there rest = there
   first_and_rest a b c xs p ps More u there rest = there
 
   mutual
     -- the code of an expression comes to its value
     pub value_runs : (e : Expr) (a b : Point) (p : Body) → IsValue acts callable n e a b p →
         (s xs : List ℤ) → Over n s xs → length xs ≡ a.width
-        → Evaluates a b xs p (expr calls e s)
+        → Evaluates a b xs p (expr Unbounded calls e s)
     value_runs e a b p (code.literal k _) s xs over long =
-        subst (Evaluates a a xs (number k)) (sym (expr-Lit calls k s))
+        subst (Evaluates a a xs (number k)) (sym (expr-Lit Unbounded calls k s))
         (here a xs (number k) k long (λ zs. value-number (assigned (xs ++ zs)) k))
     value_runs e a b p (code.variable_of v _ below) s xs over long =
-        subst (Evaluates a a xs (variable v)) (sym (expr-Var calls v s))
+        subst (Evaluates a a xs (variable v)) (sym (expr-Var Unbounded calls v s))
         (here a xs (variable v) (slot s v) long (λ zs.
         value-variable (assigned (xs ++ zs)) v ∙
         (assigned-append xs zs v (let h = over.enough in omega (arith, h, below)) ∙
         sym (over.agree v below))))
     value_runs e a b p (code.plus f _ _ _ inner) s xs over long =
-        subst (Evaluates a b xs p) (sym (expr-Unary calls Sign.Plus f s))
-        (plus_runs a b xs p (expr calls f s) (value_runs f a b p inner s xs over long))
+        subst (Evaluates a b xs p) (sym (expr-Unary Unbounded calls Sign.Plus f s))
+        (plus_runs a b xs p (expr Unbounded calls f s) (value_runs f a b p inner s xs over long))
     value_runs e a b p (code.minus f _ _ q inner) s xs over long =
-        subst (Evaluates a b xs p) (sym (expr-Unary calls Sign.Minus f s))
-        (minus_runs a b xs q (expr calls f s) (value_runs f a b q inner s xs over long))
+        subst (Evaluates a b xs p) (sym (expr-Unary Unbounded calls Sign.Minus f s))
+        (minus_runs a b xs q (expr Unbounded calls f s) (value_runs f a b q inner s xs over long))
     value_runs e a b p (code.arithmetic op f g _ c _ q r _ is left right) s xs over long =
-        subst (Evaluates a b xs p) (sym (expr-Binary calls op f g s))
-        (joint_value op a c b xs q r p (expr calls f s) (expr calls g s) is
+        subst (Evaluates a b xs p) (sym (expr-Binary Unbounded calls op f g s))
+        (joint_value op a c b xs q r p (expr Unbounded calls f s) (expr Unbounded calls g s) is
         (value_runs f a c q left s xs over long)
         (λ x come. value_runs g c b r right s (xs ++ come.more) (over-more n s xs come.more over)
         come.long))
     value_runs e a b p (code.division op d f g _ c c' _ q r is left right act wide) s xs over long =
-        subst (Evaluates a b xs p) (sym (expr-Binary calls op f g s))
-        (division_runs op d a c c' b xs q r (expr calls f s) (expr calls g s) is act wide
+        subst (Evaluates a b xs p) (sym (expr-Binary Unbounded calls op f g s))
+        (division_runs op d a c c' b xs q r (expr Unbounded calls f s) (expr Unbounded calls g s) is
+        act wide
         (value_runs f a c q left s xs over long)
         (λ x come. value_runs g c c' r right s (xs ++ come.more) (over-more n s xs come.more over)
         come.long))
     value_runs e a b p (code.call f es _ c r _ ps may args act same_width resumes wide) s xs over
         long =
-        subst (Evaluates a b xs p) (sym (expr-Apply calls f es s))
-        (call_runs f a c r b xs ps (values (map (expr calls) es) s) may act same_width resumes wide
+        subst (Evaluates a b xs p) (sym (expr-Apply Unbounded calls f es s))
+        (call_runs f a c r b xs ps (values (map (expr Unbounded calls) es) s) may act same_width
+        resumes wide
         (values_run es a c ps args s xs over long))
     value_runs e a b p (code.truth _ _ y z _ logical forks inner yes_ no_) s xs over long =
-        truth_runs a y z b xs (expr calls e s) forks yes_ no_ long
+        truth_runs a y z b xs (expr Unbounded calls e s) forks yes_ no_ long
         (logical_truthful calls e s logical) (condition_runs e a y z inner s xs over long)
     value_runs e a b p (code.choice c f g _ y y' z z' _ q r forks test first at_y second at_z) s xs
         over long =
-        subst (Evaluates a b xs p) (sym (expr-Choose calls c f g s))
-        (choice_runs a y y' z z' b xs q r (expr calls c s) (expr calls f s) (expr calls g s) forks
+        subst (Evaluates a b xs p) (sym (expr-Choose Unbounded calls c f g s))
+        (choice_runs a y y' z z' b xs q r (expr Unbounded calls c s) (expr Unbounded calls f s)
+        (expr Unbounded calls g s) forks
         at_y at_z long (condition_runs c a y z test s xs over long)
         (value_runs f y y' q first s xs over (long ∙ sym forks.first))
         (value_runs g z z' r second s xs over (long ∙ sym forks.second)))
@@ -697,7 +714,7 @@ module _ (R : Relation) (entry : ℕ → ℕ) (acts : Actions) (callable : ℕ �
     values_run : (es : List Expr) (a b : Point) (ps : List Body) →
         AreValues acts callable n es a b ps → (s xs : List ℤ) → Over n s xs → length xs ≡ a.width
         → Leads R w m 0 (stack.Call a.symbol xs) (AllCome R w a b xs ps)
-        (values (map (expr calls) es) s)
+        (values (map (expr Unbounded calls) es) s)
     values_run es a b ps (code.no_value _) s xs over long =
         let same : xs ++ [] ≡ xs = append-nil xs in
         record {
@@ -709,7 +726,8 @@ module _ (R : Relation) (entry : ℕ → ℕ) (acts : Actions) (callable : ℕ �
           stand = λ zs. refl;
         }
     values_run es a b ps (code.one_value f fs _ c _ q qs first rest) s xs over long =
-        first_and_rest a c b xs q qs (expr calls f s) (values (map (expr calls) fs) s)
+        first_and_rest a c b xs q qs (expr Unbounded calls f s)
+        (values (map (expr Unbounded calls) fs) s)
         (value_runs f a c q first s xs over long)
         (λ x come. values_run fs c b qs rest s (xs ++ come.more) (over-more n s xs come.more over)
         come.long)
@@ -717,28 +735,33 @@ module _ (R : Relation) (entry : ℕ → ℕ) (acts : Actions) (callable : ℕ �
     -- the code of a condition comes to the point of its truth
     pub condition_runs : (e : Expr) (a y z : Point) → IsCondition acts callable n e a y z →
         (s xs : List ℤ) → Over n s xs → length xs ≡ a.width
-        → Decides a y z xs (expr calls e s)
+        → Decides a y z xs (expr Unbounded calls e s)
     condition_runs e a y z (code.compared op f g _ b c _ _ p q row is left right act fits_y fits_z)
         s xs over long =
-        subst (Decides a y z xs) (sym (expr-Binary calls op f g s))
-        (comparison_runs op a b c y z xs p q row (expr calls f s) (expr calls g s) is act
+        subst (Decides a y z xs) (sym (expr-Binary Unbounded calls op f g s))
+        (comparison_runs op a b c y z xs p q row (expr Unbounded calls f s)
+        (expr Unbounded calls g s) is act
         (let l = long in omega (arith, l, fits_y)) (let l = long in omega (arith, l, fits_z))
         (value_runs f a b p left s xs over long)
         (λ x come. value_runs g b c q right s (xs ++ come.more)
         (over-more n s xs come.more over) come.long))
     condition_runs e a y z (code.negated f _ _ _ inner) s xs over long =
-        subst (Decides a y z xs) (sym (expr-Unary calls Sign.Not f s))
-        (negated_runs a y z xs (expr calls f s) (condition_runs f a z y inner s xs over long))
+        subst (Decides a y z xs) (sym (expr-Unary Unbounded calls Sign.Not f s))
+        (negated_runs a y z xs (expr Unbounded calls f s)
+        (condition_runs f a z y inner s xs over long))
     condition_runs e a y z (code.both f g _ c _ _ same first second) s xs over long =
-        subst (Decides a y z xs) (sym (expr-Binary calls Op.AndAlso f g s))
-        (both_runs a c y z xs (expr calls f s) (expr calls g s) (long ∙ sym same)
+        subst (Decides a y z xs) (sym (expr-Binary Unbounded calls Op.AndAlso f g s))
+        (both_runs a c y z xs (expr Unbounded calls f s) (expr Unbounded calls g s)
+        (long ∙ sym same)
         (condition_runs f a c z first s xs over long)
         (condition_runs g c y z second s xs over (long ∙ sym same)))
     condition_runs e a y z (code.either f g _ c _ _ same first second) s xs over long =
-        subst (Decides a y z xs) (sym (expr-Binary calls Op.OrElse f g s))
-        (either_runs a c y z xs (expr calls f s) (expr calls g s) (long ∙ sym same)
+        subst (Decides a y z xs) (sym (expr-Binary Unbounded calls Op.OrElse f g s))
+        (either_runs a c y z xs (expr Unbounded calls f s) (expr Unbounded calls g s)
+        (long ∙ sym same)
         (condition_runs f a y c first s xs over long)
         (condition_runs g c y z second s xs over (long ∙ sym same)))
     condition_runs e a y z (code.tested _ _ b _ _ p inner act fits_y fits_z) s xs over long =
-        tested_runs a b y z xs p (expr calls e s) act (let l = long in omega (arith, l, fits_y))
+        tested_runs a b y z xs p (expr Unbounded calls e s) act
+        (let l = long in omega (arith, l, fits_y))
         (let l = long in omega (arith, l, fits_z)) (value_runs e a b p inner s xs over long)

@@ -35,7 +35,8 @@ AgreeOn program rules f symbol =
     (arguments : List ℤ) → slice_get (parameter_counts program.functions) f ≡
     Some (length arguments)
     → (r : Outcome ℤ) → IsAnswer r
-    → Returns Unbounded program f arguments r ↔ Reaches (Instance rules) (stack.Call symbol arguments)
+    → Returns Unbounded program f arguments r ↔
+    Reaches (Instance rules) (stack.Call symbol arguments)
     (result_of r)
 
 -- both functions return on the arguments, with one outcome

@@ -10,7 +10,8 @@ mod members;
 mod values;
 
 pub use choices::choice_at;
-pub use members::{Members, arities_of, arity_of, is_anchor, is_member, is_rule_of, members_of};
-pub use members::symbols_in;
+pub use members::{
+    Members, arities_of, arity_of, is_anchor, is_member, is_rule_of, members_of, symbols_in,
+};
 pub use rx_plain::NoMemory;
 pub use values::{choice_values, polynomial_of, put_polynomial, without_polynomials};

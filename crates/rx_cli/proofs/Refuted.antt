@@ -2,6 +2,7 @@
 use Rattle.std.proofs.Common.{◌≡◌, ◌≢◌, ◌∙◌, ℕ, ℤ, pos, List, Option, Some, None, refl, sym, subst}
 use Rattle.std.specs.Prelude.{slice_get}
 use Rattle.c_ast.specs.declared.expr.Expr.{Expr}
+use Rattle.c_ast.specs.declared.integers.Integers.TheVariants.{Unbounded}
 use Rattle.c_ast.specs.declared.program.Function.{Function}
 use Rattle.c_ast.specs.declared.program.Resolved.{Resolved}
 use Rattle.c_front.proofs.OneCondition.{one_whole}
@@ -78,8 +79,10 @@ never_both f source agrees refutes =
     agrees.front refutes.front in
     let are : AreAlike refutes.compared = subst AreAlike same agrees.alike in
     let alike = are refutes.arguments refutes.count refutes.meets in
-    let firsts = one_outcome two.program two.first refutes.arguments refutes.first alike.outcome
+    let firsts = one_outcome Unbounded two.program two.first refutes.arguments refutes.first
+    alike.outcome
     refutes.first_returns alike.first in
-    let seconds = one_outcome two.program two.second refutes.arguments refutes.second alike.outcome
+    let seconds = one_outcome Unbounded two.program two.second refutes.arguments refutes.second
+    alike.outcome
     refutes.second_returns alike.second in
     refutes.different (firsts ∙ sym seconds)

@@ -7,9 +7,11 @@ use Rattle.rx_log.specs.Acceptance.{Accepted, IsAccepted, verdict_over}
 use Rattle.rx_log.specs.Depth.{is_shallow_log}
 use Rattle.rx_log.specs.declared.log.Log.{Log}
 use Rattle.rx_logtext.specs.Logs.{IsLog}
+use Rattle.rx_rank.specs.declared.kind.RankingKind.{RankingKind}
+use Rattle.rx_rank.specs.declared.kind.RankingKind.TheVariants.{Plain}
 use Rattle.rx_row.specs.declared.row.Row.{Row}
 use Rattle.rx_moves.specs.Moves.{Move, move_of}
-use Rattle.rx_search.specs.Beginning.{Over, Unranked, beginning, set_begun, set_of}
+use Rattle.rx_search.specs.Beginning.{Over, Unranked, beginning, kind_begun, set_begun, set_of}
 use Rattle.rx_domain.specs.declared.domains.Domains.{Domains}
 use Rattle.rx_search.specs.Begun.{IsInside, rows_of}
 use Rattle.rx_search.specs.Ends.{IsEnd}
@@ -36,12 +38,12 @@ use Rattle.rx_term.specs.declared.rule.Equation.{Equation}
 use Rattle.rx_term.specs.declared.rule.Rule.{Rule}
 use Rattle.rx_term.specs.declared.rule_set.RuleParts.{RuleParts}
 
-module _ (parts : RuleParts) (goal : Equation) (effort : Effort) where
+module _ (kind : RankingKind) (parts : RuleParts) (goal : Equation) (effort : Effort) where
   abbrev stated : Searched
-  stated = visited parts goal effort.depth effort.budget
+  stated = visited kind parts goal effort.depth effort.budget
 
   abbrev found : Option (List Move)
-  found = wider parts goal effort.depth effort.budget
+  found = wider kind parts goal effort.depth effort.budget
 
   abbrev Ends : Searched → SearchEnd → Type 0
   Ends s end = IsEnd effort.depth effort.budget s end
@@ -50,7 +52,7 @@ module _ (parts : RuleParts) (goal : Equation) (effort : Effort) where
 
   -- the wider search finds a proof
   open_closed : (end : SearchEnd) (moves : List Move) → Ends stated end →
-      is_open end ≡ true → Some moves ≡ found → both_over parts goal effort ≡ Closed moves
+      is_open end ≡ true → Some moves ≡ found → both_over kind parts goal effort ≡ Closed moves
   open_closed search_end.NoRanks moves is opens finds = absurd cc
   open_closed (search_end.LargeRanks rows) moves is opens finds = absurd cc
   open_closed (search_end.NoPlan d) moves is opens finds =
@@ -62,7 +64,7 @@ module _ (parts : RuleParts) (goal : Equation) (effort : Effort) where
 
   -- it finds none
   open_none : (end : SearchEnd) → Ends stated end → is_open end ≡ true →
-      None ≡ found → Ends (both_over parts goal effort) end
+      None ≡ found → Ends (both_over kind parts goal effort) end
   open_none search_end.NoRanks is opens none = absurd cc
   open_none (search_end.LargeRanks rows) is opens none = absurd cc
   open_none (search_end.NoPlan d) is opens none =
@@ -74,7 +76,7 @@ module _ (parts : RuleParts) (goal : Equation) (effort : Effort) where
 
   -- it doesn't follow
   pub not_open : (end : SearchEnd) → Ends stated end → is_open end ≡ false →
-      Ends (both_over parts goal effort) end
+      Ends (both_over kind parts goal effort) end
   not_open search_end.NoRanks is opens = ap (λ (s : Searched). with_wider s found) is
   not_open (search_end.LargeRanks rows) is opens = ap (λ (s : Searched). with_wider s found) is
   not_open (search_end.NoPlan d) is opens = absurd cc
@@ -85,7 +87,7 @@ module _ (parts : RuleParts) (goal : Equation) (effort : Effort) where
 
   -- the stated search closes
   pub stated_closes : (moves : List Move) → stated ≡ Closed moves →
-      both_over parts goal effort ≡ Closed moves
+      both_over kind parts goal effort ≡ Closed moves
   stated_closes moves is = ap (λ (s : Searched). with_wider s found) is
 
   -- what the wider search makes of an end at which it follows
@@ -95,7 +97,7 @@ module _ (parts : RuleParts) (goal : Equation) (effort : Effort) where
       → IfOk made (λ o. IfSome o (λ log. verdict_over parts goal log ≡ Accepted))
       → IfOk made (λ o. IfSome o (λ (log : Log). log.domains ≡ None))
       → IfOk made (λ o. IfSome o (λ log. is_shallow_log log ≡ true))
-      → IsFoundOver parts goal effort (log_or end made)
+      → IsFoundOver kind parts goal effort (log_or end made)
   followed end (Ok None) is opens finds accepted bare shallow = open_none end is opens finds
   followed end (Ok (Some log)) is opens finds accepted bare shallow = record {
     closes = open_closed end (moves_of log) is opens finds;
@@ -112,12 +114,14 @@ module _ (problem : Problem) (effort : Effort) where
   all = sought problem.rules problem.goal effort.depth effort.budget
 
   -- both searches go over the set that the search begins with
-  sought_over : (rows : Option (List (List Row))) → beginning problem.rules problem.goal ≡ Over rows
-      → all ≡ both_over (set_of problem.rules rows) problem.goal effort
-  sought_over rows from =
+  sought_over : (kind : RankingKind) (rows : Option (List (List Row)))
+      → beginning problem.rules problem.goal ≡ Over kind rows
+      → all ≡ both_over kind (set_of problem.rules rows) problem.goal effort
+  sought_over kind rows from =
       ap (λ b. with_wider
       (searched_from b problem.rules problem.goal effort.depth effort.budget)
-      (wider (set_begun problem.rules b) problem.goal effort.depth effort.budget)) from
+      (wider (kind_begun b) (set_begun problem.rules b) problem.goal effort.depth effort.budget))
+      from
 
   none_wider : (noted : Bool) (some : Option (List Move)) →
       with_wider (unranked noted problem.goal) some ≡ unranked noted problem.goal
@@ -131,59 +135,65 @@ module _ (problem : Problem) (effort : Effort) where
       → IsEnd effort.depth effort.budget all end
   nowhere_found noted end from is =
       let some : Option (List Move) =
-      wider problem.rules problem.goal effort.depth effort.budget in
+      wider Plain problem.rules problem.goal effort.depth effort.budget in
       let at : all ≡ with_wider (unranked noted problem.goal) some =
       ap (λ b. with_wider
       (searched_from b problem.rules problem.goal effort.depth effort.budget)
-      (wider (set_begun problem.rules b) problem.goal effort.depth effort.budget)) from in
+      (wider (kind_begun b) (set_begun problem.rules b) problem.goal effort.depth effort.budget))
+      from in
       subst (λ s. IsEnd effort.depth effort.budget s end) (sym (at ∙ none_wider noted some)) is
 
   -- over the rules as they are
-  pub plain_found : (found : Result Log SearchEnd) → beginning problem.rules problem.goal ≡ Over None
-      → IsFoundOver problem.rules problem.goal effort found → IsFound problem effort all found
+  pub plain_found : (found : Result Log SearchEnd) → beginning problem.rules problem.goal ≡
+      Over Plain None
+      → IsFoundOver Plain problem.rules problem.goal effort found → IsFound problem effort all found
   plain_found (Ok log) from is = record {
-    closes = sought_over None from ∙ is.closes;
+    closes = sought_over Plain None from ∙ is.closes;
     accepted = accepted_bare problem.rules problem.goal log is.bare is.accepted;
-    domains = from ∙ ap (λ (d : Option Domains). Over (rows_of d)) (sym is.bare);
+    domains = (Plain, from ∙ ap (λ (d : Option Domains). Over Plain (rows_of d)) (sym is.bare));
     shallow = is.shallow;
   }
   plain_found (Err end) from is =
-      subst (λ s. IsEnd effort.depth effort.budget s end) (sym (sought_over None from)) is
+      subst (λ s. IsEnd effort.depth effort.budget s end) (sym (sought_over Plain None from)) is
 
   -- inside domains
   module _ (inside : Inside) (is : IsInside problem.rules problem.goal inside)
-      (from : beginning problem.rules problem.goal ≡ Over (Some inside.domains.rows)) where
-    inside_sought : all ≡ both_over inside.rules problem.goal effort
-    inside_sought = sought_over (Some inside.domains.rows) from
-        ∙ ap (λ set. both_over set problem.goal effort) (sym is.set)
+      (from : beginning problem.rules problem.goal ≡ Over inside.kind (Some inside.domains.rows))
+    where
+      inside_sought : all ≡ both_over inside.kind inside.rules problem.goal effort
+      inside_sought = sought_over inside.kind (Some inside.domains.rows) from
+          ∙ ap (λ set. both_over inside.kind set problem.goal effort) (sym is.set)
 
-    pub inside_log : (log made : Log) → IsOver inside.rules problem.goal effort log
-        → made ≡ record log { domains = Some inside.domains }
-        → IsAccepted problem.rules problem.goal made → is_shallow_log made ≡ true →
-        IsSolution problem all made
-    inside_log log made over same accepted shallow = record {
-      closes = inside_sought ∙ over.closes
-          ∙ ap (λ (log : Log). Closed (moves_of log)) (sym same);
-      accepted = accepted;
-      domains = from ∙ ap (λ (l : Log). Over (rows_of l.domains)) (sym same);
-      shallow = shallow;
-    }
+      pub inside_log : (log made : Log) → IsOver inside.kind inside.rules problem.goal effort log
+          → made ≡ record log { domains = Some inside.domains }
+          → IsAccepted problem.rules problem.goal made → is_shallow_log made ≡ true →
+          IsSolution problem all made
+      inside_log log made over same accepted shallow = record {
+        closes = inside_sought ∙ over.closes
+            ∙ ap (λ (log : Log). Closed (moves_of log)) (sym same);
+        accepted = accepted;
+        domains =
+            (inside.kind, from ∙ ap (λ (l : Log). Over inside.kind (rows_of l.domains)) (sym same));
+        shallow = shallow;
+      }
 
-    pub inside_end : (end : SearchEnd)
-        → IsEnd effort.depth effort.budget (both_over inside.rules problem.goal effort) end
-        → IsEnd effort.depth effort.budget all end
-    inside_end end ends =
-        subst (λ s. IsEnd effort.depth effort.budget s end) (sym inside_sought) ends
+      pub inside_end : (end : SearchEnd)
+          → IsEnd effort.depth effort.budget (both_over inside.kind inside.rules problem.goal effort)
+          end
+          → IsEnd effort.depth effort.budget all end
+      inside_end end ends =
+          subst (λ s. IsEnd effort.depth effort.budget s end) (sym inside_sought) ends
 
 -- ---- proofs
 
 -- a closed node of the wider search is a proof
-pub closed_proved : (parts : RuleParts) (goal : Equation) (node : Node) (steps : List Step)
-    (hypotheses : List Rule) → IsClosedNode parts goal node → steps ≡ node.steps →
-    hypotheses ≡ node.at.state.hypotheses → IsProved parts goal steps hypotheses
-closed_proved parts goal node steps hypotheses is same kept =
-    subst (λ (hs : List Rule). IsProved parts goal steps hs) (sym kept)
-    (subst (λ (xs : List Step). IsProved parts goal xs node.at.state.hypotheses) (sym same)
+pub closed_proved : (kind : RankingKind) (parts : RuleParts) (goal : Equation) (node : Node)
+    (steps : List Step)
+    (hypotheses : List Rule) → IsClosedNode kind parts goal node → steps ≡ node.steps →
+    hypotheses ≡ node.at.state.hypotheses → IsProved kind parts goal steps hypotheses
+closed_proved kind parts goal node steps hypotheses is same kept =
+    subst (λ (hs : List Rule). IsProved kind parts goal steps hs) (sym kept)
+    (subst (λ (xs : List Step). IsProved kind parts goal xs node.at.state.hypotheses) (sym same)
     (record {
       reached =
           subst (λ goals. IsReachedBy parts goal node.steps

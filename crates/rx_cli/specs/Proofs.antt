@@ -7,8 +7,7 @@ use Rattle.rx_io.specs.Outside.{Names}
 use Rattle.rx_log.specs.Acceptance.{IsAccepted}
 use Rattle.rx_log.specs.declared.log.Log.{Log}
 use Rattle.rx_logtext.specs.Logs.{IsLog}
-use Rattle.rx_search.specs.Beginning.{Over, beginning}
-use Rattle.rx_search.specs.Begun.{rows_of}
+use Rattle.rx_search.specs.Begun.{BeginsOver, rows_of}
 use Rattle.rx_search.specs.Search.{Searched, NoRanks, LargeRanks, Closed, Large, Spent, NoPlan}
 use Rattle.rx_moves.specs.Moves.{Move, move_of}
 use Rattle.rx_report.specs.declared.answer.Answer.{Answer}
@@ -22,11 +21,12 @@ use Rattle.rx_cli.specs.Problems.{asked, posed}
 use Rattle.rx_cli.specs.Searches.{sought}
 
 -- the text of a log that is accepted for the problem, whose steps are these moves, and whose domains
--- are those with which the search begins: it has none exactly where the rules alone have ranks
+-- are those with which the search begins: none exactly where the rules alone have ranks, and else
+-- those that are found, or the wider ones
 pub record IsProofText (problem : Problem) (moves : List Move) (text : List ℕ) : Type 0 where
   pub log : Log
   pub accepted : IsAccepted problem.rules problem.goal log
-  pub domains : beginning problem.rules problem.goal ≡ Over (rows_of log.domains)
+  pub domains : BeginsOver problem.rules problem.goal (rows_of log.domains)
   pub steps : map move_of log.steps ≡ moves
   pub is : IsLog text log
 

@@ -1,11 +1,11 @@
 -- What comes of searching for a proof: the stated search comes first. Where it finds no plan within
 -- its bounds, or where the limits were passed at one of its visits, the wider search follows over the
--- same set; what it finds is the proof then.
+-- same set, by the same ranking; what it finds is the proof then.
 use Rattle.std.specs.Prelude.{ℕ, Option, Some, None, List}
 use Rattle.rx_term.specs.declared.rule.Equation.{Equation}
 use Rattle.rx_term.specs.declared.rule_set.RuleParts.{RuleParts}
 use Rattle.rx_moves.specs.Moves.{Move}
-use Rattle.rx_search.specs.Beginning.{used_set}
+use Rattle.rx_search.specs.Beginning.{used_kind, used_set}
 use Rattle.rx_search.specs.Search.{Searched, NoRanks, LargeRanks, Closed, Large, Spent, NoPlan, searched}
 use Rattle.rx_wider.specs.Wider.{wider}
 
@@ -27,4 +27,4 @@ with_wider NoPlan found = found_or NoPlan found
 abbrev pub sought : RuleParts → Equation → ℕ → ℕ → Searched
 sought parts goal depth budget =
     with_wider (searched parts goal depth budget)
-    (wider (used_set parts goal) goal depth budget)
+    (wider (used_kind parts goal) (used_set parts goal) goal depth budget)

@@ -18,9 +18,9 @@ use Rattle.rx_log.specs.Acceptance.{Accepted, IsAccepted, verdict_over}
 use Rattle.rx_log.specs.Depth.{is_shallow_log}
 use Rattle.rx_log.specs.declared.log.Log.{Log}
 use Rattle.rx_plain.specs.declared.no_memory.NoMemory.{NoMemory}
-use Rattle.rx_search.specs.Beginning.{Over, beginning}
-use Rattle.rx_search.specs.Begun.{rows_of}
+use Rattle.rx_search.specs.Begun.{BeginsOver, rows_of}
 use Rattle.rx_search.specs.Ends.{IsEnd}
+use Rattle.rx_rank.specs.declared.kind.RankingKind.{RankingKind}
 use Rattle.rx_search.specs.Search.{Closed, Searched, visited}
 use Rattle.rx_term.specs.declared.rule.Equation.{Equation}
 use Rattle.rx_term.specs.declared.rule_set.RuleParts.{RuleParts}
@@ -109,31 +109,32 @@ is_open (search_end.Spent visits) = false
 is_open (search_end.Large path rows) = true
 is_open search_end.NoMemory = false
 
--- what both searches come to over a set that has ranks
-abbrev pub both_over : RuleParts → Equation → Effort → Searched
-both_over parts goal effort =
-    with_wider (visited parts goal effort.depth effort.budget)
-    (wider parts goal effort.depth effort.budget)
+-- what both searches come to over a set that has ranks of this kind
+abbrev pub both_over : RankingKind → RuleParts → Equation → Effort → Searched
+both_over kind parts goal effort =
+    with_wider (visited kind parts goal effort.depth effort.budget)
+    (wider kind parts goal effort.depth effort.budget)
 
 -- a log without domains is found over a set: its moves close both searches, and it is accepted
-pub record IsOver (parts : RuleParts) (goal : Equation) (effort : Effort) (log : Log) : Type 0 where
-  pub closes : both_over parts goal effort ≡ Closed (moves_of log)
+pub record IsOver (kind : RankingKind) (parts : RuleParts) (goal : Equation) (effort : Effort)
+    (log : Log) : Type 0 where
+  pub closes : both_over kind parts goal effort ≡ Closed (moves_of log)
   pub accepted : verdict_over parts goal log ≡ Accepted
   pub bare : log.domains ≡ None
   pub shallow : is_shallow_log log ≡ true
 
 -- what is found over a set: such a log, or how both searches end
-abbrev pub IsFoundOver : RuleParts → Equation → Effort → Result Log SearchEnd → Type 0
-IsFoundOver parts goal effort (Ok log) = IsOver parts goal effort log
-IsFoundOver parts goal effort (Err end) =
-    IsEnd effort.depth effort.budget (both_over parts goal effort) end
+abbrev pub IsFoundOver : RankingKind → RuleParts → Equation → Effort → Result Log SearchEnd → Type 0
+IsFoundOver kind parts goal effort (Ok log) = IsOver kind parts goal effort log
+IsFoundOver kind parts goal effort (Err end) =
+    IsEnd effort.depth effort.budget (both_over kind parts goal effort) end
 
 -- a log of a problem's proof, by what the searches come to; its domains are those with which they
 -- begin
 pub record IsSolution (problem : Problem) (searched : Searched) (log : Log) : Type 0 where
   pub closes : searched ≡ Closed (moves_of log)
   pub accepted : IsAccepted problem.rules problem.goal log
-  pub domains : beginning problem.rules problem.goal ≡ Over (rows_of log.domains)
+  pub domains : BeginsOver problem.rules problem.goal (rows_of log.domains)
   pub shallow : is_shallow_log log ≡ true
 
 -- what is found of a problem: such a log, or how the searches end

@@ -31,17 +31,17 @@ use rx_fm::FmEnd;
 use rx_has_ranks::RankMemo;
 use rx_log::Log;
 use rx_logwriting::{LogEnd, write_log};
-use rx_pairs::Listing;
 use rx_plain::{Items, NoMemory};
+use rx_rank::RankingKind;
 use rx_report::{Answer, Verdict};
 use rx_row::Constraint;
 use rx_search::{
-    Beginning, Inside, MOST_KEPT, SearchEnd, begin, log_inside, log_of, rule_pairs, search_over,
-    unranked_end,
+    Beginning, Inside, MOST_KEPT, SearchEnd, SearchSpace, begin, log_inside, log_of, rule_pairs,
+    search_over, unranked_end,
 };
 use rx_solve::refutes;
-use rx_term::{Equation, RuleSet};
-use rx_wider::wider_search;
+use rx_term::Equation;
+use rx_wider::{Reach, wider_search};
 use std::alloc::Global;
 
 /// The text of a log in which nothing is too deep for one. Where the log has no text for another
@@ -88,32 +88,36 @@ fn is_open(end: &SearchEnd) -> bool
 /// The log of what the wider search over rules that have ranks finds, if it finds a proof.
 fn wider_log<S: FnMut(&Constraint) -> Result<Option<Cert>, FmEnd>>(
     alloc: Global,
-    rules: &RuleSet,
-    listed: &Listing,
+    space: &SearchSpace<'_>,
     goal: &Equation,
     effort: Effort,
     ranks: &mut RankMemo,
     solve: &mut S,
 ) -> Result<Option<Log>, NoMemory>
-    requires fits { IsFitting rules.now goal.now }
-    requires ready { IsReady rules.now }
-    requires listed { listed.now ≡ listing rules.now rules.now.rules }
+    requires fits { IsFitting space.now.rules.now goal.now }
+    requires ready { IsReady space.now.kind space.now.rules.now }
+    requires listed { space.now.listed.now ≡
+        listing space.now.rules.now space.now.rules.now.rules }
     requires solver { IsSolver S.FnMut solve.old }
     ensures solver { IsSolver S.FnMut solve.new }
     ensures found { IfOk result (λ o. option_map moves_of o ≡
-        wider rules.now goal.now effort.depth effort.budget) }
+        wider space.now.kind space.now.rules.now goal.now effort.depth effort.budget) }
     ensures accepted { IfOk result (λ o.
-        IfSome o (λ log. verdict_over rules.now goal.now log ≡ Accepted)) }
+        IfSome o (λ log. verdict_over space.now.rules.now goal.now log ≡ Accepted)) }
     ensures bare { IfOk result (λ o. IfSome o (λ log. log.domains ≡ None)) }
     ensures shallow { IfOk result (λ o. IfSome o (λ log. is_shallow_log log ≡ true)) }
 {
+    let reach = Reach {
+        depth: effort.depth,
+        budget: effort.budget,
+    };
     let found = wider_search(
         alloc,
-        rules,
-        listed,
+        space.kind,
+        space.rules,
+        space.listed,
         goal,
-        effort.depth,
-        effort.budget,
+        reach,
         ranks,
         solve,
     )?;
@@ -121,7 +125,7 @@ fn wider_log<S: FnMut(&Constraint) -> Result<Option<Cert>, FmEnd>>(
         Some(node) => {
             let steps = node.steps.as_slice();
             let hypotheses = node.at.state.hypotheses();
-            let log = log_of(alloc, rules, steps, hypotheses, ranks, solve)?;
+            let log = log_of(alloc, space, steps, hypotheses, ranks, solve)?;
             Ok(Some(log))
         }
         None => Ok(None),
@@ -142,51 +146,50 @@ fn log_or(end: SearchEnd, made: Result<Option<Log>, NoMemory>) -> Result<Log, Se
 /// What is found over rules where the stated search ended so: the wider search may follow.
 fn search_on<S: FnMut(&Constraint) -> Result<Option<Cert>, FmEnd>>(
     alloc: Global,
-    rules: &RuleSet,
-    listed: &Listing,
+    space: &SearchSpace<'_>,
     goal: &Equation,
     effort: Effort,
     end: SearchEnd,
     ranks: &mut RankMemo,
     solve: &mut S,
 ) -> Result<Log, SearchEnd>
-    requires fits { IsFitting rules.now goal.now }
-    requires ready { IsReady rules.now }
-    requires listed { listed.now ≡ listing rules.now rules.now.rules }
+    requires fits { IsFitting space.now.rules.now goal.now }
+    requires ready { IsReady space.now.kind space.now.rules.now }
+    requires listed { space.now.listed.now ≡
+        listing space.now.rules.now space.now.rules.now.rules }
     requires ended { IsEnd effort.depth effort.budget
-        (visited rules.now goal.now effort.depth effort.budget) end }
+        (visited space.now.kind space.now.rules.now goal.now effort.depth effort.budget) end }
     requires solver { IsSolver S.FnMut solve.old }
     ensures solver { IsSolver S.FnMut solve.new }
-    ensures found { IsFoundOver rules.now goal.now effort result }
+    ensures found { IsFoundOver space.now.kind space.now.rules.now goal.now effort result }
 {
     if !is_open(&end) {
         return Err(end);
     }
-    let made = wider_log(alloc, rules, listed, goal, effort, ranks, solve);
+    let made = wider_log(alloc, space, goal, effort, ranks, solve);
     log_or(end, made)
 }
 
 /// What both searches find over rules that have ranks: the stated search comes first.
 fn search_both<S: FnMut(&Constraint) -> Result<Option<Cert>, FmEnd>>(
     alloc: Global,
-    rules: &RuleSet,
-    listed: &Listing,
+    space: &SearchSpace<'_>,
     goal: &Equation,
     effort: Effort,
     ranks: &mut RankMemo,
     solve: &mut S,
 ) -> Result<Log, SearchEnd>
-    requires fits { IsFitting rules.now goal.now }
-    requires ready { IsReady rules.now }
-    requires listed { listed.now ≡ listing rules.now rules.now.rules }
+    requires fits { IsFitting space.now.rules.now goal.now }
+    requires ready { IsReady space.now.kind space.now.rules.now }
+    requires listed { space.now.listed.now ≡
+        listing space.now.rules.now space.now.rules.now.rules }
     requires solver { IsSolver S.FnMut solve.old }
     ensures solver { IsSolver S.FnMut solve.new }
-    ensures found { IsFoundOver rules.now goal.now effort result }
+    ensures found { IsFoundOver space.now.kind space.now.rules.now goal.now effort result }
 {
     match search_over(
         alloc,
-        rules,
-        listed,
+        space,
         goal,
         effort.depth,
         effort.budget,
@@ -195,7 +198,7 @@ fn search_both<S: FnMut(&Constraint) -> Result<Option<Cert>, FmEnd>>(
         solve,
     ) {
         Ok(log) => Ok(log),
-        Err(end) => search_on(alloc, rules, listed, goal, effort, end, ranks, solve),
+        Err(end) => search_on(alloc, space, goal, effort, end, ranks, solve),
     }
 }
 
@@ -215,8 +218,18 @@ fn search_inside<S: FnMut(&Constraint) -> Result<Option<Cert>, FmEnd>>(
     ensures found { IsFound problem.now effort
         (sought problem.now.rules problem.now.goal effort.depth effort.budget) result }
 {
-    let Inside { rules, listed, .. } = &inside;
-    match search_both(alloc, rules, listed, &problem.goal, effort, ranks, solve) {
+    let Inside {
+        rules,
+        listed,
+        kind,
+        ..
+    } = &inside;
+    let space = SearchSpace {
+        rules,
+        listed,
+        kind: *kind,
+    };
+    match search_both(alloc, &space, &problem.goal, effort, ranks, solve) {
         Ok(log) => Ok(log_inside(log, inside)),
         Err(end) => Err(dropped(inside, end)),
     }
@@ -241,7 +254,14 @@ fn search_from<S: FnMut(&Constraint) -> Result<Option<Cert>, FmEnd>>(
     let listed = rule_pairs(alloc, rules)?;
     let begun = begin(alloc, rules, &listed, goal, ranks, solve)?;
     match begun {
-        Beginning::Plain => search_both(alloc, rules, &listed, goal, effort, ranks, solve),
+        Beginning::Bare => {
+            let space = SearchSpace {
+                rules,
+                listed: &listed,
+                kind: RankingKind::Plain,
+            };
+            search_both(alloc, &space, goal, effort, ranks, solve)
+        }
         Beginning::Inside(inside) => search_inside(alloc, problem, effort, inside, ranks, solve),
         Beginning::Unranked { noted } => Err(unranked_end(alloc, noted, goal)),
     }

@@ -16,6 +16,7 @@ use Rattle.rx_find_ranks.specs.Joined.{tries_from}
 use Rattle.rx_find_ranks.specs.Tables.{pairs_open}
 use Rattle.rx_find_ranks.proofs.Grouping.{items_of}
 use Rattle.rx_find_ranks.specs.declared.open_pair.OpenPair.{OpenPair}
+use Rattle.rx_rank.specs.declared.kind.RankingKind.{RankingKind}
 
 -- ---- groups in memory
 
@@ -38,7 +39,8 @@ module _ (groups : List (Vec OpenPair Global)) (i : ℕ) (group : Vec OpenPair G
 
 -- ---- the components of the definition
 
-module _ (parts : RuleParts) (hypotheses : List Rule) (names : List ℕ) (entries : List OpenPair)
+module _ (kind : RankingKind) (parts : RuleParts) (hypotheses : List Rule) (names : List ℕ)
+    (entries : List OpenPair)
   where
     pairs_one : (c : ℕ) (o : OpenPair) (os : List OpenPair) (b : Bool) →
         pairs_open (entries_in names os c) ≡ pairs_in names c (pairs_open os)
@@ -52,19 +54,20 @@ module _ (parts : RuleParts) (hypotheses : List Rule) (names : List ℕ) (entrie
     pairs_same c [] = refl
     pairs_same c (o ∷ os) = pairs_one c o os (is_member names c o.pair.left.0) (pairs_same c os)
 
-    tries_same : (a n : ℕ) → tries_from parts hypotheses names a
+    tries_same : (a n : ℕ) → tries_from kind parts hypotheses names a
         (map (entries_in names entries) (range_with_len a n))
-        ≡ map (tried_in parts hypotheses names (pairs_open entries)) (range_with_len a n)
+        ≡ map (tried_in kind parts hypotheses names (pairs_open entries)) (range_with_len a n)
     tries_same a zero = refl
     tries_same a (suc n) =
-        λ i. unless_empty parts hypotheses names a (pairs_same a entries i) ∷ tries_same (a + 1) n i
+        λ i. unless_empty kind parts hypotheses names a (pairs_same a entries i) ∷ tries_same
+        (a + 1) n i
 
     pub all_tries : names ≡ representatives_of (length parts.symbols) (pairs_open entries) → length
         names ≡
         length parts.symbols
-        → all_made (tries_from parts hypotheses names 0 (by_component names entries)) ≡
-        polynomials parts hypotheses (pairs_open entries)
+        → all_made (tries_from kind parts hypotheses names 0 (by_component names entries)) ≡
+        polynomials kind parts hypotheses (pairs_open entries)
     all_tries found count =
         ap all_made (tries_same 0 (length names))
-        ∙ (λ i. all_made (map (tried_in parts hypotheses (found i) (pairs_open entries))
+        ∙ (λ i. all_made (map (tried_in kind parts hypotheses (found i) (pairs_open entries))
         (symbols_of (count i))))

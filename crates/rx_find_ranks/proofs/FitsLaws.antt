@@ -25,9 +25,11 @@ use Rattle.rx_find_ranks.specs.Groups.{by_component, groups_in, ungrouped}
 use Rattle.rx_find_ranks.specs.Tables.{has_number, pairs_open}
 use Rattle.rx_find_ranks.specs.declared.fits.Fits.{Fits}
 use Rattle.rx_find_ranks.specs.declared.open_pair.OpenPair.{OpenPair}
+use Rattle.rx_rank.specs.declared.kind.RankingKind.{RankingKind}
 
 -- the groups are those of the components of the open pairs, and are borrowed
-module _ (parts : RuleParts) (hypotheses : List Rule) (entries : List OpenPair) (names : List ℕ)
+module _ (kind : RankingKind) (parts : RuleParts) (hypotheses : List Rule) (entries : List OpenPair)
+    (names : List ℕ)
     (groups lent : List (Vec OpenPair Global))
     (found : names ≡ representatives_of (length parts.symbols) (pairs_open entries))
     (grouped : groups_in groups ≡ by_component names entries) (same : lent ≡ groups) where
@@ -46,12 +48,12 @@ module _ (parts : RuleParts) (hypotheses : List Rule) (entries : List OpenPair) 
       let all = ap (λ (gs : List (Vec OpenPair Global)). length gs) same in
       omega (arith, few, count, each, all)
 
-  whole_is : all_made (tries_from parts hypotheses names 0 (groups_in lent)) ≡
-      polynomials parts hypotheses (pairs_open entries)
+  whole_is : all_made (tries_from kind parts hypotheses names 0 (groups_in lent)) ≡
+      polynomials kind parts hypotheses (pairs_open entries)
   whole_is =
-      ap (λ gs. all_made (tries_from parts hypotheses names 0 (groups_in gs))) same
-      ∙ ap (λ gs. all_made (tries_from parts hypotheses names 0 gs)) grouped
-      ∙ all_tries parts hypotheses names entries found names_count
+      ap (λ gs. all_made (tries_from kind parts hypotheses names 0 (groups_in gs))) same
+      ∙ ap (λ gs. all_made (tries_from kind parts hypotheses names 0 gs)) grouped
+      ∙ all_tries kind parts hypotheses names entries found names_count
 
   abbrev all : List OpenPair
   all = ungrouped (groups_in groups)
@@ -74,9 +76,9 @@ module _ (parts : RuleParts) (hypotheses : List Rule) (entries : List OpenPair) 
 
   -- what comes of all is what comes of the open pairs
   pub fits_tried : (t : Attempt Fit) (after : Attempt Fits)
-      → tried_as opens_lent t ≡ all_made (tries_from parts hypotheses names 0 (groups_in lent))
+      → tried_as opens_lent t ≡ all_made (tries_from kind parts hypotheses names 0 (groups_in lent))
       → AreTried all t after
-      → tried_as opens after ≡ polynomials parts hypotheses (pairs_open entries)
+      → tried_as opens after ≡ polynomials kind parts hypotheses (pairs_open entries)
   fits_tried t after tried are =
       (λ i. record { made = same_opens t.made after.made are.made i; noted = are.noted i })
       ∙ tried ∙ whole_is

@@ -26,6 +26,7 @@ use Rattle.rx_find_ranks.proofs.Overlaying.{length-overlaid, over_either, over_f
 use Rattle.rx_find_ranks.specs.declared.open_pair.OpenPair.{OpenPair}
 use Rattle.rx_find_ranks.specs.Joined.{AreJoined, IsFitBelow, IsNext, IsOneMore, IsOwnBelow, JoinsNext}
 use Rattle.rx_find_ranks.specs.Columns.{overlaid}
+use Rattle.rx_rank.specs.declared.kind.RankingKind.{RankingKind}
 
 -- ---- what is said of pairs
 
@@ -146,9 +147,10 @@ nothing_below infos names fit none holds falls = record {
 pub open_count : (entries : List OpenPair) → length (pairs_open entries) ≡ length entries
 open_count entries = length-map entries (λ (o : OpenPair). o.pair)
 
-module _ (parts : RuleParts) (hypotheses : List Rule) (names : List ℕ) (c : ℕ) (pairs : List Pair)
+module _ (kind : RankingKind) (parts : RuleParts) (hypotheses : List Rule) (names : List ℕ) (c : ℕ)
+    (pairs : List Pair)
     (before : Fit) where
-  own_here : (f : ℕ) (p : Body) → IsOwn parts hypotheses names c pairs f p →
+  own_here : (f : ℕ) (p : Body) → IsOwn kind parts hypotheses names c pairs f p →
       IsOwnBelow parts.symbols names (c + 1) f p
   own_here f p own =
       let here = named (slice_get names f) c own.member in
@@ -156,7 +158,7 @@ module _ (parts : RuleParts) (hypotheses : List Rule) (names : List ℕ) (c : �
       record { name = here.0; is = here.1; less = omega (arith, is); over = own.over }
 
   module _ (fit whole : Fit) (is : AreJoined before fit whole)
-      (own : IsComponentFit parts hypotheses names c pairs fit) (done : List Pair)
+      (own : IsComponentFit kind parts hypotheses names c pairs fit) (done : List Pair)
       (below : IsFitBelow parts.symbols names c done before) where
     abbrev vs : List (Option Body)
     vs = before.values.items
@@ -170,7 +172,7 @@ module _ (parts : RuleParts) (hypotheses : List Rule) (names : List ℕ) (c : �
         sym below.count
 
     own_one : (f : ℕ) (p : Body) → polynomial_of us f ≡ Some p →
-        IsOwn parts hypotheses names c pairs f p
+        IsOwn kind parts hypotheses names c pairs f p
     own_one f p e = own.own f p (ap (λ values. polynomial_of values f) (sym own.fit_is.same) ∙ e)
 
     second_kept : (f : ℕ) (p : Body) → polynomial_of us f ≡ Some p →
@@ -233,17 +235,18 @@ module _ (parts : RuleParts) (hypotheses : List Rule) (names : List ℕ) (c : �
         still_append vs done pairs before.falls.items fit.falls.items below.fit_is.falls
 
   -- the component has pairs, so its first fit choice is tried
-  unless_some : (ps : List Pair) → (length ps ≡ 0 → ⊥) → component parts hypotheses names c ps ≡
-      unless_empty parts hypotheses names c ps
+  unless_some : (ps : List Pair) → (length ps ≡ 0 → ⊥) → component kind parts hypotheses names c ps
+      ≡
+      unless_empty kind parts hypotheses names c ps
   unless_some [] some = absurd (some refl)
   unless_some (p ∷ ps) some = refl
 
   -- there is one
   more_made : (fit whole : Fit) (noted : Bool) → (length pairs ≡ 0 → ⊥) →
       record { made = Some (still_open pairs fit.falls.items); noted = noted } ≡
-      component parts hypotheses names c pairs
-      → IsComponentFit parts hypotheses names c pairs fit → AreJoined before fit whole →
-      IsOneMore parts hypotheses names c pairs before
+      component kind parts hypotheses names c pairs
+      → IsComponentFit kind parts hypotheses names c pairs fit → AreJoined before fit whole →
+      IsOneMore kind parts hypotheses names c pairs before
       (record { made = Some whole; noted = noted })
   more_made fit whole noted some tried own is = record {
     tried = λ done below.
@@ -254,8 +257,8 @@ module _ (parts : RuleParts) (hypotheses : List Rule) (names : List ℕ) (c : �
 
   -- there is none
   more_failed : (noted : Bool) → (length pairs ≡ 0 → ⊥) → record { made = None; noted = noted } ≡
-      component parts hypotheses names c pairs
-      → IsOneMore parts hypotheses names c pairs before (record { made = None; noted = noted })
+      component kind parts hypotheses names c pairs
+      → IsOneMore kind parts hypotheses names c pairs before (record { made = None; noted = noted })
   more_failed noted some tried = record {
     tried =
         λ done below. ap (after (still_open done before.falls.items))
@@ -266,31 +269,35 @@ module _ (parts : RuleParts) (hypotheses : List Rule) (names : List ℕ) (c : �
   -- what comes of it joined to the fit before
   pub one_joined : (t whole : Attempt Fit) → (length pairs ≡ 0 → ⊥)
       → tried_as (λ (fit : Fit). still_open pairs fit.falls.items) t ≡
-      component parts hypotheses names c pairs
-      → IfSome t.made (IsComponentFit parts hypotheses names c pairs)
-      → IsNext before t whole → IsOneMore parts hypotheses names c pairs before whole
+      component kind parts hypotheses names c pairs
+      → IfSome t.made (IsComponentFit kind parts hypotheses names c pairs)
+      → IsNext before t whole → IsOneMore kind parts hypotheses names c pairs before whole
   one_joined t whole some tried fits next =
-      subst (λ n. IsOneMore parts hypotheses names c pairs before
+      subst (λ n. IsOneMore kind parts hypotheses names c pairs before
       (record { made = whole.made; noted = n })) (sym next.noted)
       (by t.made whole.made tried fits next.made)
     where
       by : (made after : Option Fit) → record {
         made = option_map (λ (fit : Fit). still_open pairs fit.falls.items) made;
         noted = t.noted;
-      } ≡ component parts hypotheses names c pairs
-          → IfSome made (IsComponentFit parts hypotheses names c pairs)
-          → JoinsNext before made after → IsOneMore parts hypotheses names c pairs before
+      } ≡ component kind parts hypotheses names c pairs
+          → IfSome made (IsComponentFit kind parts hypotheses names c pairs)
+          → JoinsNext before made after → IsOneMore kind parts hypotheses names c pairs before
           (record { made = after; noted = t.noted })
       by None after is own none =
-          subst (λ m. IsOneMore parts hypotheses names c pairs before
+          subst (λ m. IsOneMore kind parts hypotheses names c pairs before
           (record { made = m; noted = t.noted })) (sym none) (more_failed t.noted some is)
       by (Some fit) None is own joined = absurd joined
       by (Some fit) (Some both) is own joined = more_made fit both t.noted some is own joined
 
 -- the component has no pair
-nothing_more : (parts : RuleParts) (hypotheses : List Rule) (names : List ℕ) (c : ℕ) (before : Fit)
-    → IsOneMore parts hypotheses names c [] before (record { made = Some before; noted = false })
-nothing_more parts hypotheses names c before = record {
+nothing_more : (kind : RankingKind) (parts : RuleParts) (hypotheses : List Rule) (names : List ℕ)
+    (c : ℕ) (before : Fit)
+    → IsOneMore kind parts hypotheses names c [] before (record {
+      made = Some before;
+      noted = false;
+    })
+nothing_more kind parts hypotheses names c before = record {
   tried = λ done below. (λ i. record {
     made =
         Some ((ap (λ ps. still_open ps before.falls.items) (append-nil done) ∙
@@ -306,9 +313,10 @@ nothing_more parts hypotheses names c before = record {
       });
 }
 
-pub more_empty : (parts : RuleParts) (hypotheses : List Rule) (names : List ℕ) (c : ℕ)
-    (before : Fit) (entries : List OpenPair) → length entries ≡ 0
-    → IsOneMore parts hypotheses names c (pairs_open entries) before
+pub more_empty : (kind : RankingKind) (parts : RuleParts) (hypotheses : List Rule) (names : List ℕ)
+    (c : ℕ) (before : Fit) (entries : List OpenPair) → length entries ≡ 0
+    → IsOneMore kind parts hypotheses names c (pairs_open entries) before
     (record { made = Some before; noted = false })
-more_empty parts hypotheses names c before [] none = nothing_more parts hypotheses names c before
-more_empty parts hypotheses names c before (o ∷ os) none = absurd (omega (arith, none))
+more_empty kind parts hypotheses names c before [] none =
+    nothing_more kind parts hypotheses names c before
+more_empty kind parts hypotheses names c before (o ∷ os) none = absurd (omega (arith, none))

@@ -1,5 +1,5 @@
 -- Polynomials in the place of others.
-use Rattle.std.proofs.Common.{◌≡◌, ap, refl, arith, inl, inr, ℕ, zero, suc, ◌+◌, ◌⊎◌, Option, Some, None, List, [], ◌∷◌, ◌++◌, length}
+use Rattle.std.proofs.Common.{◌≡◌, ap, refl, arith, inl, inr, ℕ, zero, suc, ◌⊎◌, Option, Some, None, List, [], ◌∷◌, ◌++◌, length}
 use Rattle.rx_poly.specs.declared.body.Body.{Body}
 use Rattle.rx_anchors.specs.Values.{polynomial_of}
 use Rattle.rx_find_ranks.specs.Columns.{laid_at, overlaid}
@@ -51,7 +51,8 @@ over_first (p ∷ ps) (Some x ∷ qs) zero e = cc
 over_first (p ∷ ps) (None ∷ qs) (suc f) e = over_first ps qs f e
 over_first (p ∷ ps) (Some x ∷ qs) (suc f) e = over_first ps qs f e
 
-pub over_either : (ps qs : List (Option Body)) (f : ℕ) (r : Body) → polynomial_of (overlaid ps qs) f ≡
+pub over_either : (ps qs : List (Option Body)) (f : ℕ) (r : Body) → polynomial_of (overlaid ps qs) f
+    ≡
     Some r → (polynomial_of ps f ≡ Some r) ⊎ (polynomial_of qs f ≡ Some r)
 over_either [] qs f r e = inl e
 over_either (p ∷ ps) [] f r e = inl e

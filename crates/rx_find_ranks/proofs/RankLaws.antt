@@ -11,14 +11,14 @@ use Rattle.rx_pairs.proofs.InsideLaws.{whole_listed}
 use Rattle.rx_pairs.proofs.LoopLaws.{all_within}
 use Rattle.rx_pairs.proofs.PairsLaws.{made_roots}
 use Rattle.rx_pairs.specs.Graph.{edges_of}
-use Rattle.rx_pairs.specs.Inside.{bounded, descends_in, descent_in, listing}
+use Rattle.rx_pairs.specs.Inside.{bounded, descent_in, listing}
 use Rattle.rx_pairs.specs.Lowering.{Descends}
-use Rattle.rx_pairs.specs.Pairs.{AreAllPairs, HasRoot, SidesFit}
+use Rattle.rx_pairs.specs.Pairs.{HasRoot, SidesFit}
 use Rattle.rx_pairs.specs.Ranks.{bad_rank}
 use Rattle.rx_pairs.specs.declared.listing.Listing.{Listing}
 use Rattle.rx_pairs.specs.declared.pair.Pair.{Pair}
 use Rattle.rx_pairs.specs.declared.table.RankTable.{RankTable}
-use Rattle.rx_solve.specs.Attempts.{Tried, beyond}
+use Rattle.rx_solve.specs.Attempts.{beyond}
 use Rattle.rx_rank.specs.Ranking.{ranking, ranking_from, ranking_of}
 use Rattle.rx_find_ranks.specs.Found.{HasColumns, LowersAll}
 use Rattle.rx_find_ranks.specs.Rounds.{IsBegun, IsLonger, IsRanked}
@@ -27,25 +27,27 @@ use Rattle.rx_find_ranks.specs.Columns.{columns_in}
 use Rattle.rx_find_ranks.specs.declared.column.FoundColumn.{FoundColumn}
 use Rattle.rx_find_ranks.specs.declared.progress.Progress.{Progress}
 use Rattle.rx_find_ranks.specs.declared.ranking.Ranking.{Ranking}
+use Rattle.rx_rank.specs.declared.kind.RankingKind.{RankingKind}
 
 -- ---- where all pairs are listed, and where not
 
-module _ (parts : RuleParts) (hypotheses : List Rule) where
+module _ (kind : RankingKind) (parts : RuleParts) (hypotheses : List Rule) where
   ranked_by : (listed : Listing) (b : Bool) → listed.whole ≡ b →
-      cond b (ranking_from parts hypotheses 7 listed.pairs) beyond ≡
-      ranking_of parts hypotheses listed
+      cond b (ranking_from kind parts hypotheses 7 listed.pairs) beyond ≡
+      ranking_of kind parts hypotheses listed
   ranked_by listed b e =
-      ap (λ w. cond w (ranking_from parts hypotheses 7 listed.pairs) beyond) (sym e)
+      ap (λ w. cond w (ranking_from kind parts hypotheses 7 listed.pairs) beyond) (sym e)
 
   module _ (listed : Listing) (is : listed ≡ listing parts (parts.rules ++ hypotheses)) where
-    pub not_whole : listed.whole ≡ false → beyond ≡ ranking parts hypotheses
-    not_whole e = ranked_by listed false e ∙ ap (ranking_of parts hypotheses) is
+    pub not_whole : listed.whole ≡ false → beyond ≡ ranking kind parts hypotheses
+    not_whole e = ranked_by listed false e ∙ ap (ranking_of kind parts hypotheses) is
 
     pub all_listed : listed.whole ≡ true →
-        ranking_from parts hypotheses 7 listed.pairs ≡ ranking parts hypotheses
-    all_listed e = ranked_by listed true e ∙ ap (ranking_of parts hypotheses) is
+        ranking_from kind parts hypotheses 7 listed.pairs ≡ ranking kind parts hypotheses
+    all_listed e = ranked_by listed true e ∙ ap (ranking_of kind parts hypotheses) is
 
-module _ (parts lent : RuleParts) (hypotheses : List Rule) (same : lent ≡ parts)
+module _ (kind : RankingKind) (parts lent : RuleParts) (hypotheses : List Rule) (same : lent ≡
+    parts)
     (made : IsWellMade parts) (roots : All HasRoot hypotheses)
     (fit : All (SidesFit parts) hypotheses) (listed : Listing)
     (is : listed ≡ listing parts (parts.rules ++ hypotheses)) (whole : listed.whole ≡ true) where
@@ -82,10 +84,11 @@ module _ (parts lent : RuleParts) (hypotheses : List Rule) (same : lent ≡ part
     first_over = subst (λ ps. IsOver (length lent.symbols) (edges_of ps)) (sym begun.all) over
 
     pub first_ranking :
-        ranking_from lent hypotheses 7 (pairs_open start.entries.items) ≡ ranking parts hypotheses
+        ranking_from kind lent hypotheses 7 (pairs_open start.entries.items) ≡ ranking kind parts
+        hypotheses
     first_ranking =
-        (λ j. ranking_from (same j) hypotheses 7 (begun.all j))
-        ∙ all_listed parts hypotheses listed is whole
+        (λ j. ranking_from kind (same j) hypotheses 7 (begun.all j))
+        ∙ all_listed kind parts hypotheses listed is whole
 
     -- the table of the columns at last lowers all pairs
     module _ (after : Progress) (ranked : IsRanked lent.symbols start after) (symbols : ℕ)

@@ -1,5 +1,5 @@
 -- Rounds: how a ranking goes on after a column of heights, and what a round adds to the columns.
-use Rattle.std.proofs.Common.{◌≡◌, ◌∙◌, ap, sym, refl, arith, ℕ, zero, suc, ◌+◌, ◌<◌, ◌≤◌, Bool, Option, Some, None, List, [], ◌∷◌, length}
+use Rattle.std.proofs.Common.{◌≡◌, ◌∙◌, ap, sym, refl, arith, ℕ, zero, suc, ◌+◌, ◌≤◌, Bool, Option, Some, None, List, [], ◌∷◌, length}
 use Rattle.std.specs.Option.{IfSome, option_map}
 use Rattle.rx_pairs.specs.declared.pair.Pair.{Pair}
 use Rattle.rx_rank.specs.Components.{inside}
@@ -13,45 +13,49 @@ use Rattle.rx_find_ranks.specs.Rounds.{IsGrown, IsGrownOrSame, IsLonger, IsRanke
 use Rattle.rx_find_ranks.specs.Tables.{pairs_open}
 use Rattle.rx_find_ranks.specs.declared.open_pair.OpenPair.{OpenPair}
 use Rattle.rx_find_ranks.specs.declared.progress.Progress.{Progress}
+use Rattle.rx_rank.specs.declared.kind.RankingKind.{RankingKind}
 
 -- ---- the definition, by the pairs that are open after the heights
 
-module _ (parts : RuleParts) (hypotheses : List Rule) where
+module _ (kind : RankingKind) (parts : RuleParts) (hypotheses : List Rule) where
   abbrev n : ℕ
   n = length parts.symbols
 
   -- none is: the end
   pub rounds_end : (k : ℕ) (pairs : List Pair) (ends : List OpenPair) → ends ≡ [] →
-      pairs_open ends ≡ inside n pairs → applies tt ≡ ranking_from parts hypotheses k pairs
+      pairs_open ends ≡ inside n pairs → applies tt ≡ ranking_from kind parts hypotheses k pairs
   unfolding ranking_from
   rounds_end zero pairs ends none is =
-      ap (λ ps. unless_closed parts hypotheses ps fails) (sym (ap pairs_open none) ∙ is)
+      ap (λ ps. unless_closed kind parts hypotheses ps fails) (sym (ap pairs_open none) ∙ is)
   rounds_end (suc k) pairs ends none is =
-      ap (λ ps. unless_closed parts hypotheses ps
-      (and_then (polynomials parts hypotheses ps) (ranking_from parts hypotheses k)))
+      ap (λ ps. unless_closed kind parts hypotheses ps
+      (and_then (polynomials kind parts hypotheses ps) (ranking_from kind parts hypotheses k)))
       (sym (ap pairs_open none) ∙ is)
 
   goes_on : (next : List Pair → Tried (Unit {0})) (pairs : List Pair) (ends : List OpenPair) →
       (ends ≡ [] → ⊥) → pairs_open ends ≡ inside n pairs
-      → next (pairs_open ends) ≡ unless_closed parts hypotheses (inside n pairs)
+      → next (pairs_open ends) ≡ unless_closed kind parts hypotheses (inside n pairs)
       (next (inside n pairs))
   goes_on next pairs [] some is = absurd (some refl)
-  goes_on next pairs (o ∷ os) some is = ap (λ ps. unless_closed parts hypotheses ps (next ps)) is
+  goes_on next pairs (o ∷ os) some is =
+      ap (λ ps. unless_closed kind parts hypotheses ps (next ps)) is
 
   -- one is, and no round is left
   pub no_round : (pairs : List Pair) (ends : List OpenPair) → (ends ≡ [] → ⊥) → pairs_open ends ≡
-      inside n pairs → fails ≡ ranking_from parts hypotheses 0 pairs
+      inside n pairs → fails ≡ ranking_from kind parts hypotheses 0 pairs
   unfolding ranking_from
   no_round pairs ends some is = goes_on (λ ps. fails) pairs ends some is
 
   -- one is, and a round is left
   pub next_round : (k : ℕ) (pairs : List Pair) (ends : List OpenPair) → (ends ≡ [] → ⊥) →
       pairs_open ends ≡ inside n pairs
-      → and_then (polynomials parts hypotheses (pairs_open ends)) (ranking_from parts hypotheses k)
-      ≡ ranking_from parts hypotheses (suc k) pairs
+      → and_then (polynomials kind parts hypotheses (pairs_open ends)) (ranking_from kind parts
+      hypotheses k)
+      ≡ ranking_from kind parts hypotheses (suc k) pairs
   unfolding ranking_from
   next_round k pairs ends some is =
-      goes_on (λ ps. and_then (polynomials parts hypotheses ps) (ranking_from parts hypotheses k))
+      goes_on (λ ps. and_then (polynomials kind parts hypotheses ps) (ranking_from kind parts
+      hypotheses k))
       pairs ends some is
 
   module _ (k left : ℕ) (pairs : List Pair) (grown : List OpenPair) (one_less : left ≡ suc k)
@@ -61,28 +65,28 @@ module _ (parts : RuleParts) (hypotheses : List Rule) where
         made = option_map (λ (after : Progress). pairs_open after.entries.items)
             made;
         noted = noted;
-      } ≡ polynomials parts hypotheses (pairs_open grown)) where
+      } ≡ polynomials kind parts hypotheses (pairs_open grown)) where
     abbrev view : Progress → List Pair
     view after = pairs_open after.entries.items
 
     abbrev then : Option Progress → Tried (Unit {0})
-    then o = made_then (option_map view o) noted (ranking_from parts hypotheses k)
+    then o = made_then (option_map view o) noted (ranking_from kind parts hypotheses k)
 
-    round_is : then made ≡ ranking_from parts hypotheses left pairs
+    round_is : then made ≡ ranking_from kind parts hypotheses left pairs
     round_is =
-        ap (λ (t : Tried (List Pair)). and_then t (ranking_from parts hypotheses k)) tried
+        ap (λ (t : Tried (List Pair)). and_then t (ranking_from kind parts hypotheses k)) tried
         ∙ next_round k pairs grown some is
-        ∙ ap (λ m. ranking_from parts hypotheses m pairs) (sym one_less)
+        ∙ ap (λ m. ranking_from kind parts hypotheses m pairs) (sym one_less)
 
     -- the polynomials aren't found
     pub round_fails : made ≡ None → record { made = None; noted = noted } ≡
-        ranking_from parts hypotheses left pairs
+        ranking_from kind parts hypotheses left pairs
     round_fails none = sym (ap then none) ∙ round_is
 
     -- they are, and what comes of the rounds that are left
     pub round_done : (next : Progress) → made ≡ Some next → (rest : Tried (Unit {0})) → rest ≡
-        ranking_from parts hypotheses k (view next)
-        → noting noted rest ≡ ranking_from parts hypotheses left pairs
+        ranking_from kind parts hypotheses k (view next)
+        → noting noted rest ≡ ranking_from kind parts hypotheses left pairs
     round_done next found rest later = ap (noting noted) later ∙ sym (ap then found) ∙ round_is
 
 -- where no pair is open, none is inside a component
@@ -132,7 +136,8 @@ module _ (infos : List SymInfo) (before : Progress) where
   }
 
   pub ranked_rounds : (grown next : Progress) (made : Option Progress) →
-      IsGrownOrSame infos before grown → IsGrown infos grown next → IfSome made (IsRanked infos next)
+      IsGrownOrSame infos before grown → IsGrown infos grown next → IfSome made (IsRanked infos
+      next)
       → IfSome made (IsRanked infos before)
   ranked_rounds grown next None first second rest = rest
   ranked_rounds grown next (Some after) first second rest =

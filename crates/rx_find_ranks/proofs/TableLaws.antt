@@ -38,7 +38,8 @@ module _ (pair : Pair) where
       IsJoined (chain rows whole) (chain rows first) second
   join_more rows whole first second j = record {
     form = ap (λ rs. rows.form ++ rs) j.form ∙ sym (append_assoc rows.form first.form second.form);
-    within = ap (λ b. rows.within && b) j.within ∙ and_grouped rows.within first.within second.within;
+    within = ap (λ b. rows.within && b) j.within ∙ and_grouped rows.within first.within
+        second.within;
   }
 
   -- a column that was there has the same rows

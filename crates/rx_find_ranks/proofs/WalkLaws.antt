@@ -17,30 +17,32 @@ use Rattle.rx_find_ranks.specs.Joined.{IsFitBelow, IsOneMore, tries_from}
 use Rattle.rx_find_ranks.specs.Groups.{groups_in, ungrouped}
 use Rattle.rx_find_ranks.specs.Tables.{pairs_open}
 use Rattle.rx_find_ranks.specs.declared.open_pair.OpenPair.{OpenPair}
+use Rattle.rx_rank.specs.declared.kind.RankingKind.{RankingKind}
 
 -- the pairs of the first groups
 abbrev pub pairs_to : List (Vec OpenPair Global) → ℕ → List Pair
 pairs_to groups i = pairs_open (ungrouped (groups_in (take i groups)))
 
-pub record IsWalked (parts : RuleParts) (hypotheses : List Rule) (names : List ℕ)
+pub record IsWalked (kind : RankingKind) (parts : RuleParts) (hypotheses : List Rule) (names : List
+    ℕ)
     (groups : List (Vec OpenPair Global)) (i : ℕ) (noted : Bool) (fit : Fit) : Type 0 where
   pub upto : i ≤ length groups
   pub decides : noting noted (after (still_open (pairs_to groups i) fit.falls.items)
-      (all_made (tries_from parts hypotheses names i (groups_in (drop i groups)))))
-      ≡ all_made (tries_from parts hypotheses names 0 (groups_in groups))
+      (all_made (tries_from kind parts hypotheses names i (groups_in (drop i groups)))))
+      ≡ all_made (tries_from kind parts hypotheses names 0 (groups_in groups))
   pub fits : IsFitBelow parts.symbols names i (pairs_to groups i) fit
 
 after_none : {A : Type 0} (o : Option (List A)) → option_map (λ ys. [] ++ ys) o ≡ o
 after_none None = refl
 after_none (Some ys) = refl
 
-module _ (parts : RuleParts) (hypotheses : List Rule) (names : List ℕ)
+module _ (kind : RankingKind) (parts : RuleParts) (hypotheses : List Rule) (names : List ℕ)
     (groups : List (Vec OpenPair Global)) where
   abbrev whole : Tried (List Pair)
-  whole = all_made (tries_from parts hypotheses names 0 (groups_in groups))
+  whole = all_made (tries_from kind parts hypotheses names 0 (groups_in groups))
 
   pub walk_begin : (fit : Fit) → IsFitBelow parts.symbols names 0 [] fit →
-      IsWalked parts hypotheses names groups 0 false fit
+      IsWalked kind parts hypotheses names groups 0 false fit
   walk_begin fit below = record {
     upto = omega arith;
     decides = λ i. record { made = after_none whole.made i; noted = whole.noted };
@@ -48,24 +50,24 @@ module _ (parts : RuleParts) (hypotheses : List Rule) (names : List ℕ)
   }
 
   module _ (i : ℕ) (noted : Bool) (fit : Fit)
-      (walked : IsWalked parts hypotheses names groups i noted fit) where
+      (walked : IsWalked kind parts hypotheses names groups i noted fit) where
     module _ (group : Vec OpenPair Global) (entries : List OpenPair) (there : i < length groups)
         (is : group ≡ get_or groups i group) (lent : entries ≡ group.items)
-        (t : Attempt Fit) (one : IsOneMore parts hypotheses names i (pairs_open entries) fit t)
+        (t : Attempt Fit) (one : IsOneMore kind parts hypotheses names i (pairs_open entries) fit t)
         (all_noted : Bool) (noted_is : all_noted ≡ (noted || t.noted)) where
       abbrev first : Tried (List Pair)
-      first = unless_empty parts hypotheses names i (pairs_open entries)
+      first = unless_empty kind parts hypotheses names i (pairs_open entries)
 
       abbrev later : List (Tried (List Pair))
-      later = tries_from parts hypotheses names (i + 1) (groups_in (drop (i + 1) groups))
+      later = tries_from kind parts hypotheses names (i + 1) (groups_in (drop (i + 1) groups))
 
       opened : noting noted (after (still_open (pairs_to groups i) fit.falls.items)
           (all_made (first ∷ later))) ≡ whole
       opened =
           (λ j. noting noted (after (still_open (pairs_to groups i) fit.falls.items)
-          (all_made (unless_empty parts hypotheses names i (pairs_open (lent j)) ∷ later))))
+          (all_made (unless_empty kind parts hypotheses names i (pairs_open (lent j)) ∷ later))))
           ∙ sym (ap (λ gs. noting noted (after (still_open (pairs_to groups i) fit.falls.items)
-          (all_made (tries_from parts hypotheses names i gs))))
+          (all_made (tries_from kind parts hypotheses names i gs))))
           (groups_after groups i group there is))
           ∙ walked.decides
 
@@ -76,7 +78,7 @@ module _ (parts : RuleParts) (hypotheses : List Rule) (names : List ℕ)
 
       -- one component more has a first fit choice
       pub walk_next : (more : Fit) → t.made ≡ Some more →
-          IsWalked parts hypotheses names groups (i + 1) all_noted more
+          IsWalked kind parts hypotheses names groups (i + 1) all_noted more
       walk_next more made = record {
         upto = omega (arith, there);
         decides =
@@ -129,7 +131,7 @@ module _ (parts : RuleParts) (hypotheses : List Rule) (names : List ℕ)
           })
           ∙ no_component noted (still_open (pairs_to groups i) fit.falls.items) whole
           (sym (ap (λ gs. noting noted (after (still_open (pairs_to groups i) fit.falls.items)
-          (all_made (tries_from parts hypotheses names i (groups_in gs)))))
+          (all_made (tries_from kind parts hypotheses names i (groups_in gs)))))
           (drop_of_length-le groups past))
           ∙ walked.decides)
 

@@ -2,7 +2,6 @@
 use Rattle.std.specs.Prelude.{◌≡◌, ◌≤◌, ◌==◌, ℕ, Bool, true, Option, Some, None, List, [], ◌∷◌, All, length, map, slice_get}
 use Rattle.std.specs.List.{list_any}
 use Rattle.rx_plain.specs.Formed.{Formed, pure, ◌>>=◌}
-use Rattle.rx_poly.specs.Constants.{number}
 use Rattle.rx_poly.specs.Variables.{uses_below}
 use Rattle.rx_poly.specs.declared.body.Body.{Body}
 use Rattle.rx_row.specs.declared.row.Row.{Row}

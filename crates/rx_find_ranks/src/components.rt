@@ -78,7 +78,9 @@ fn fit_entries<S: FnMut(&Constraint) -> Result<Option<Cert>, FmEnd>>(
 {
     let lent = pairs_of(alloc, entries)?;
     let pairs = lent.as_slice();
-    fit_component(alloc, kind, parts, hypotheses, names, name, pairs, memo, solve)
+    fit_component(
+        alloc, kind, parts, hypotheses, names, name, pairs, memo, solve,
+    )
 }
 
 /// The fit before with that of one component more, if it has one.
@@ -120,7 +122,9 @@ fn fit_one_more<S: FnMut(&Constraint) -> Result<Option<Cert>, FmEnd>>(
             noted: false,
         });
     }
-    let tried = fit_entries(alloc, kind, parts, hypotheses, names, name, entries, memo, solve)?;
+    let tried = fit_entries(
+        alloc, kind, parts, hypotheses, names, name, entries, memo, solve,
+    )?;
     join_next(before, tried)
 }
 

@@ -18,86 +18,95 @@ use Rattle.rx_solve.specs.Attempts.{Tried, applies, beyond, fails}
 use Rattle.rx_term.specs.WellMade.{IsWellMade}
 use Rattle.rx_term.specs.declared.rule.Rule.{Rule}
 use Rattle.rx_term.specs.declared.rule_set.RuleParts.{RuleParts}
+use Rattle.rx_rank.specs.declared.kind.RankingKind.{RankingKind}
 
-module _ (parts : RuleParts) (hypotheses : List Rule) where
+module _ (kind : RankingKind) (parts : RuleParts) (hypotheses : List Rule) where
   abbrev n : ℕ
   n = length parts.symbols
 
   -- ---- the definition, by the pairs that are open after the heights
 
   by_open : (opens : List Pair) (next : List Pair → Tried (Unit {0})) → length opens ≡ 0 →
-      applies tt ≡ unless_closed parts hypotheses opens (next opens)
+      applies tt ≡ unless_closed kind parts hypotheses opens (next opens)
   by_open [] next none = refl
   by_open (pair ∷ pairs) next none = cc
 
   by_some : (opens : List Pair) (next : List Pair → Tried (Unit {0})) → (length opens ≡ 0 → ⊥) →
-      next opens ≡ unless_closed parts hypotheses opens (next opens)
+      next opens ≡ unless_closed kind parts hypotheses opens (next opens)
   by_some [] next some = absurd (some refl)
   by_some (pair ∷ pairs) next some = refl
 
   module _ (pairs opens : List Pair) (is : opens ≡ inside n pairs) where
     -- none is
-    pub all_closed : (k : ℕ) → length opens ≡ 0 → applies tt ≡ ranking_from parts hypotheses k pairs
+    pub all_closed : (k : ℕ) → length opens ≡ 0 → applies tt ≡ ranking_from kind parts hypotheses k
+        pairs
     unfolding ranking_from
     all_closed zero none =
-        by_open opens (λ ps. fails) none ∙ ap (λ ps. unless_closed parts hypotheses ps fails) is
+        by_open opens (λ ps. fails) none ∙ ap (λ ps. unless_closed kind parts hypotheses ps fails)
+        is
     all_closed (suc k) none =
-        by_open opens (λ ps. and_then (polynomials parts hypotheses ps)
-        (ranking_from parts hypotheses k)) none
-        ∙ ap (λ ps. unless_closed parts hypotheses ps (and_then (polynomials parts hypotheses ps)
-        (ranking_from parts hypotheses k))) is
+        by_open opens (λ ps. and_then (polynomials kind parts hypotheses ps)
+        (ranking_from kind parts hypotheses k)) none
+        ∙ ap (λ ps. unless_closed kind parts hypotheses ps (and_then (polynomials kind parts
+        hypotheses ps)
+        (ranking_from kind parts hypotheses k))) is
 
     module _ (some : length opens ≡ 0 → ⊥) where
       -- one is, and no round is left
-      pub no_more_rounds : (k : ℕ) → k ≡ 0 → fails ≡ ranking_from parts hypotheses k pairs
+      pub no_more_rounds : (k : ℕ) → k ≡ 0 → fails ≡ ranking_from kind parts hypotheses k pairs
       unfolding ranking_from
       no_more_rounds zero none =
-          by_some opens (λ ps. fails) some ∙ ap (λ ps. unless_closed parts hypotheses ps fails) is
+          by_some opens (λ ps. fails) some ∙ ap (λ ps. unless_closed kind parts hypotheses ps fails)
+          is
       no_more_rounds (suc k) none = cc
 
       -- one is, and a round is left
-      one_round : (k : ℕ) → and_then (polynomials parts hypotheses opens)
-          (ranking_from parts hypotheses k) ≡ ranking_from parts hypotheses (suc k) pairs
+      one_round : (k : ℕ) → and_then (polynomials kind parts hypotheses opens)
+          (ranking_from kind parts hypotheses k) ≡ ranking_from kind parts hypotheses (suc k) pairs
       unfolding ranking_from
       one_round k =
-          by_some opens (λ ps. and_then (polynomials parts hypotheses ps)
-          (ranking_from parts hypotheses k)) some
-          ∙ ap (λ ps. unless_closed parts hypotheses ps (and_then (polynomials parts hypotheses ps)
-          (ranking_from parts hypotheses k))) is
+          by_some opens (λ ps. and_then (polynomials kind parts hypotheses ps)
+          (ranking_from kind parts hypotheses k)) some
+          ∙ ap (λ ps. unless_closed kind parts hypotheses ps (and_then (polynomials kind parts
+          hypotheses ps)
+          (ranking_from kind parts hypotheses k))) is
 
       module _ (k left : ℕ) (one_less : left ≡ suc k) (made : Option (List Pair)) (noted : Bool)
-          (tried : record { made = made; noted = noted } ≡ polynomials parts hypotheses opens) where
-        then_is : made_then made noted (ranking_from parts hypotheses k) ≡
-            ranking_from parts hypotheses left pairs
-        then_is =
-            ap (λ (t : Tried (List Pair)). and_then t (ranking_from parts hypotheses k)) tried
-            ∙ one_round k ∙ ap (λ m. ranking_from parts hypotheses m pairs) (sym one_less)
+          (tried : record { made = made; noted = noted } ≡ polynomials kind parts hypotheses opens)
+        where
+          then_is : made_then made noted (ranking_from kind parts hypotheses k) ≡
+              ranking_from kind parts hypotheses left pairs
+          then_is =
+              ap (λ (t : Tried (List Pair)). and_then t (ranking_from kind parts hypotheses k)) tried
+              ∙ one_round k ∙ ap (λ m. ranking_from kind parts hypotheses m pairs) (sym one_less)
 
-        -- no polynomials are found
-        pub round_ends : made ≡ None → record { made = None; noted = noted } ≡
-            ranking_from parts hypotheses left pairs
-        round_ends none =
-            ap (λ m. made_then m noted (ranking_from parts hypotheses k)) (sym none) ∙ then_is
+          -- no polynomials are found
+          pub round_ends : made ≡ None → record { made = None; noted = noted } ≡
+              ranking_from kind parts hypotheses left pairs
+          round_ends none =
+              ap (λ m. made_then m noted (ranking_from kind parts hypotheses k)) (sym none) ∙ then_is
 
-        -- they are, and the rounds that are left decide
-        pub round_goes_on : (next : List Pair) → made ≡ Some next → (rest : Tried (Unit {0})) →
-            rest ≡ ranking_from parts hypotheses k next
-            → noting noted rest ≡ ranking_from parts hypotheses left pairs
-        round_goes_on next found rest later =
-            ap (noting noted) later
-            ∙ ap (λ m. made_then m noted (ranking_from parts hypotheses k)) (sym found) ∙ then_is
+          -- they are, and the rounds that are left decide
+          pub round_goes_on : (next : List Pair) → made ≡ Some next → (rest : Tried (Unit {0})) →
+              rest ≡ ranking_from kind parts hypotheses k next
+              → noting noted rest ≡ ranking_from kind parts hypotheses left pairs
+          round_goes_on next found rest later =
+              ap (noting noted) later
+              ∙ ap (λ m. made_then m noted (ranking_from kind parts hypotheses k)) (sym found) ∙
+              then_is
 
 -- ---- the pairs of the rules, and those of the hypotheses after them
 
-module _ (parts : RuleParts) (hypotheses : List Rule) where
-  not_whole : (listed : Listing) → listed.whole ≡ false → beyond ≡ ranking_of parts hypotheses listed
+module _ (kind : RankingKind) (parts : RuleParts) (hypotheses : List Rule) where
+  not_whole : (listed : Listing) → listed.whole ≡ false → beyond ≡ ranking_of kind parts hypotheses
+      listed
   not_whole listed e =
-      ap (λ (b : Bool). cond b (ranking_from parts hypotheses 7 listed.pairs) beyond) (sym e)
+      ap (λ (b : Bool). cond b (ranking_from kind parts hypotheses 7 listed.pairs) beyond) (sym e)
 
   is_whole : (listed : Listing) → listed.whole ≡ true →
-      ranking_from parts hypotheses 7 listed.pairs ≡ ranking_of parts hypotheses listed
+      ranking_from kind parts hypotheses 7 listed.pairs ≡ ranking_of kind parts hypotheses listed
   is_whole listed e =
-      ap (λ (b : Bool). cond b (ranking_from parts hypotheses 7 listed.pairs) beyond) (sym e)
+      ap (λ (b : Bool). cond b (ranking_from kind parts hypotheses 7 listed.pairs) beyond) (sym e)
 
   -- the pairs of the rules aren't all listed
   ends_first : (first others : Listing) → first.whole ≡ false →
@@ -109,11 +118,11 @@ module _ (parts : RuleParts) (hypotheses : List Rule) where
       }) first).whole) e ∙ e
 
   pub rules_beyond : (first : Listing) → first ≡ listing parts parts.rules → first.whole ≡ false →
-      beyond ≡ ranking parts hypotheses
+      beyond ≡ ranking kind parts hypotheses
   rules_beyond first is e =
       not_whole (joined first (listing parts hypotheses))
       (ends_first first (listing parts hypotheses) e)
-      ∙ ap (ranking_of parts hypotheses) (ap (λ l. joined l (listing parts hypotheses)) is
+      ∙ ap (ranking_of kind parts hypotheses) (ap (λ l. joined l (listing parts hypotheses)) is
       ∙ sym (listing-append parts parts.rules hypotheses))
 
   module _ (first : List Pair)
@@ -125,19 +134,19 @@ module _ (parts : RuleParts) (hypotheses : List Rule) where
         (λ i. joined (first_is i) (more_is i)) ∙ sym (listing-append parts parts.rules hypotheses)
 
     -- those of the hypotheses aren't
-    pub hypotheses_beyond : more.whole ≡ false → beyond ≡ ranking parts hypotheses
+    pub hypotheses_beyond : more.whole ≡ false → beyond ≡ ranking kind parts hypotheses
     hypotheses_beyond e =
         not_whole (record { pairs = first ++ more.pairs; whole = more.whole }) e
-        ∙ ap (ranking_of parts hypotheses) all_is
+        ∙ ap (ranking_of kind parts hypotheses) all_is
 
     module _ (lent : RuleParts) (same : lent ≡ parts) (e : more.whole ≡ true) where
       -- they are
-      pub all_ranked : ranking_from lent hypotheses 7 (first ++ more.pairs) ≡
-          ranking parts hypotheses
+      pub all_ranked : ranking_from kind lent hypotheses 7 (first ++ more.pairs) ≡
+          ranking kind parts hypotheses
       all_ranked =
-          ap (λ (ps : RuleParts). ranking_from ps hypotheses 7 (first ++ more.pairs)) same
+          ap (λ (ps : RuleParts). ranking_from kind ps hypotheses 7 (first ++ more.pairs)) same
           ∙ is_whole (record { pairs = first ++ more.pairs; whole = more.whole }) e
-          ∙ ap (ranking_of parts hypotheses) all_is
+          ∙ ap (ranking_of kind parts hypotheses) all_is
 
       abbrev all : List Rule
       all = parts.rules ++ hypotheses

@@ -127,7 +127,8 @@ module _ (test : Pair → Bool) (a b : ℕ) where
       (leads (edges_of pairs) a b) is) [
         | inl first ↦
             subst (λ (c : Bool). leads (edges_of
-            (cond c (pair ∷ filter test pairs) (filter test pairs))) a b ≡ true) (sym (passes pair first))
+            (cond c (pair ∷ filter test pairs) (filter test pairs))) a b ≡ true)
+            (sym (passes pair first))
             (or_left (is_edge a b (edge_of pair)) (leads (edges_of (filter test pairs)) a b) first)
         | inr other ↦ by (test pair) (passing_lead passes pairs other)
       ] where

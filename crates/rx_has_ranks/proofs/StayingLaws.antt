@@ -22,6 +22,7 @@ use Rattle.rx_solve.specs.Attempts.{Tried}
 use Rattle.rx_term.proofs.Places.{at_some, from_place}
 use Rattle.rx_term.specs.declared.rule.Rule.{Rule}
 use Rattle.rx_term.specs.declared.rule_set.RuleParts.{RuleParts}
+use Rattle.rx_rank.specs.declared.kind.RankingKind.{RankingKind}
 
 -- ---- some of the pairs are of the same symbols
 
@@ -140,21 +141,23 @@ module _ (refs : List (Bor Pair)) (falls : List (Option (List Cert))) (i : ℕ) 
 
 -- ---- a component
 
-module _ (parts : RuleParts) (hypotheses : List Rule) (names : List ℕ) (c : ℕ) where
-  some_component : (mine : List Pair) → (length mine ≡ 0 → ⊥) → component parts hypotheses names c
-      mine ≡ unless_empty parts hypotheses names c mine
-  some_component [] some = absurd (some refl)
-  some_component (pair ∷ pairs) some = refl
+module _ (kind : RankingKind) (parts : RuleParts) (hypotheses : List Rule) (names : List ℕ) (c : ℕ)
+  where
+    some_component : (mine : List Pair) → (length mine ≡ 0 → ⊥) → component kind parts hypotheses
+        names c
+        mine ≡ unless_empty kind parts hypotheses names c mine
+    some_component [] some = absurd (some refl)
+    some_component (pair ∷ pairs) some = refl
 
-  -- with an open pair
-  pub component_tried : (refs : List (Bor Pair)) (pairs : List Pair) → pairs_at refs ≡
-      pairs_in names c pairs
-      → (length refs ≡ 0 → ⊥) → (t : Tried (List Pair)) → t ≡
-      component parts hypotheses names c (pairs_at refs)
-      → t ≡ tried_in parts hypotheses names pairs c
-  component_tried refs pairs mine some t is =
-      is ∙ some_component (pairs_at refs) (λ none. some (sym (lent_count refs) ∙ none)) ∙
-      ap (unless_empty parts hypotheses names c) mine
+    -- with an open pair
+    pub component_tried : (refs : List (Bor Pair)) (pairs : List Pair) → pairs_at refs ≡
+        pairs_in names c pairs
+        → (length refs ≡ 0 → ⊥) → (t : Tried (List Pair)) → t ≡
+        component kind parts hypotheses names c (pairs_at refs)
+        → t ≡ tried_in kind parts hypotheses names pairs c
+    component_tried refs pairs mine some t is =
+        is ∙ some_component (pairs_at refs) (λ none. some (sym (lent_count refs) ∙ none)) ∙
+        ap (unless_empty kind parts hypotheses names c) mine
 
 -- ---- the walk over the components
 
@@ -166,17 +169,17 @@ next_symbol c n less =
 no_symbol : (c n : ℕ) → n ≤ c → range_with_len c (n - c) ≡ []
 no_symbol c n past = let none : n - c ≡ 0 = omega (arith, past) in ap (range_with_len c) none
 
-module _ (parts : RuleParts) (hypotheses : List Rule) (pairs : List Pair) where
+module _ (kind : RankingKind) (parts : RuleParts) (hypotheses : List Rule) (pairs : List Pair) where
   abbrev n : ℕ
   n = length parts.symbols
 
   abbrev tries : List ℕ → List (Tried (List Pair))
-  tries fs = map (tried_in parts hypotheses (representatives_of n pairs) pairs) fs
+  tries fs = map (tried_in kind parts hypotheses (representatives_of n pairs) pairs) fs
 
   -- what is left of the components so far, and the components after them decide
   pub record IsLeft (c : ℕ) (noted : Bool) (left : List Pair) : Type 0 where
     pub decides : noting noted (after left (all_made (tries (range_with_len c (n - c))))) ≡
-        polynomials parts hypotheses pairs
+        polynomials kind parts hypotheses pairs
     pub over : IsOver n (edges_of left)
 
   after_none : (o : Option (List Pair)) → option_map (λ ys. [] ++ ys) o ≡ o
@@ -186,7 +189,7 @@ module _ (parts : RuleParts) (hypotheses : List Rule) (pairs : List Pair) where
   pub left_begin : (left : List Pair) → left ≡ [] → IsLeft 0 false left
   left_begin left none = record {
     decides =
-        let whole = polynomials parts hypotheses pairs in
+        let whole = polynomials kind parts hypotheses pairs in
         let all : n - 0 ≡ n = omega arith in
         ap (λ k. noting false (after left (all_made (tries (range_with_len 0 k))))) all
         ∙ ap (λ ps. noting false (after ps whole)) none
@@ -197,10 +200,10 @@ module _ (parts : RuleParts) (hypotheses : List Rule) (pairs : List Pair) where
   module _ (c : ℕ) (noted : Bool) (left : List Pair) (is : IsLeft c noted left) where
     module _ (less : c < n) (made : Option (List Pair)) (more : Bool)
         (tried : record { made = made; noted = more } ≡
-        tried_in parts hypotheses (representatives_of n pairs) pairs c) where
+        tried_in kind parts hypotheses (representatives_of n pairs) pairs c) where
       opened : noting noted (after left (all_made
-          (tried_in parts hypotheses (representatives_of n pairs) pairs c ∷
-          tries (range_with_len (c + 1) (n - (c + 1)))))) ≡ polynomials parts hypotheses pairs
+          (tried_in kind parts hypotheses (representatives_of n pairs) pairs c ∷
+          tries (range_with_len (c + 1) (n - (c + 1)))))) ≡ polynomials kind parts hypotheses pairs
       opened =
           sym (ap (λ fs. noting noted (after left (all_made (tries fs)))) (next_symbol c n less)) ∙
           is.decides
@@ -212,8 +215,8 @@ module _ (parts : RuleParts) (hypotheses : List Rule) (pairs : List Pair) where
         decides =
             (λ i. noting (noted || more) (after (longer i) (all_made
             (tries (range_with_len (c + 1) (n - (c + 1)))))))
-            ∙ component_made noted left (polynomials parts hypotheses pairs)
-            (tried_in parts hypotheses (representatives_of n pairs) pairs c)
+            ∙ component_made noted left (polynomials kind parts hypotheses pairs)
+            (tried_in kind parts hypotheses (representatives_of n pairs) pairs c)
             (tries (range_with_len (c + 1) (n - (c + 1)))) opened (left ++ mine) more
             ((λ i. record { made = option_map (λ ys. left ++ ys) (sym some i); noted = more }) ∙
             ap (after left) tried);
@@ -224,18 +227,18 @@ module _ (parts : RuleParts) (hypotheses : List Rule) (pairs : List Pair) where
 
       -- it has no fit choice
       pub left_failed : made ≡ None → record { made = None; noted = noted || more } ≡
-          polynomials parts hypotheses pairs
+          polynomials kind parts hypotheses pairs
       left_failed none =
-          component_failed noted left (polynomials parts hypotheses pairs)
-          (tried_in parts hypotheses (representatives_of n pairs) pairs c)
+          component_failed noted left (polynomials kind parts hypotheses pairs)
+          (tried_in kind parts hypotheses (representatives_of n pairs) pairs c)
           (tries (range_with_len (c + 1) (n - (c + 1)))) opened more
           ((λ i. record { made = option_map (λ ys. left ++ ys) (sym none i); noted = more }) ∙
           ap (after left) tried)
 
     -- no component is left
     pub left_end : n ≤ c → record { made = Some left; noted = noted } ≡
-        polynomials parts hypotheses pairs
+        polynomials kind parts hypotheses pairs
     left_end past =
-        no_component noted left (polynomials parts hypotheses pairs)
+        no_component noted left (polynomials kind parts hypotheses pairs)
         (sym (ap (λ fs. noting noted (after left (all_made (tries fs)))) (no_symbol c n past)) ∙
         is.decides)

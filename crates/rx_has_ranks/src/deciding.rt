@@ -63,7 +63,15 @@ fn decide_from<S: FnMut(&Constraint) -> Result<Option<Cert>, FmEnd>>(
             noted: false,
         });
     }
-    let tried = left_after(alloc, kind, parts, hypotheses, &opened, &mut memo.pairs, solve)?;
+    let tried = left_after(
+        alloc,
+        kind,
+        parts,
+        hypotheses,
+        &opened,
+        &mut memo.pairs,
+        solve,
+    )?;
     let noted = tried.noted;
     match tried.made {
         Some(next) => {
@@ -106,7 +114,16 @@ fn decide_listed<S: FnMut(&Constraint) -> Result<Option<Cert>, FmEnd>>(
     let mut refs = Vec::with_capacity(alloc, first.len())?;
     push_borrowed(&mut refs, first)?;
     push_borrowed(&mut refs, others)?;
-    decide_from(alloc, kind, parts, hypotheses, 7, refs.as_slice(), memo, solve)
+    decide_from(
+        alloc,
+        kind,
+        parts,
+        hypotheses,
+        7,
+        refs.as_slice(),
+        memo,
+        solve,
+    )
 }
 
 /// What comes of the ranking of the pairs of the rules, which are all listed, and of those of the

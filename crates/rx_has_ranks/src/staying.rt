@@ -153,8 +153,8 @@ fn left_in<'a, S: FnMut(&Constraint) -> Result<Option<Cert>, FmEnd>>(
     requires solver { IsSolver S.FnMut solve.old }
     ensures solver { IsSolver S.FnMut solve.new }
     ensures tried { IfOk result (λ t. tried_as (λ left. pairs_at left.items) t ≡
-        tried_in kind parts.now hypotheses.now opened.now.names.items (pairs_at opened.now.pairs.items)
-        name) }
+        tried_in kind parts.now hypotheses.now opened.now.names.items
+        (pairs_at opened.now.pairs.items) name) }
     ensures over { IfOk result (λ t. IfSome t.made (λ left.
         (n : ℕ) → IsOver n (edges_of (pairs_at opened.now.pairs.items)) →
         IsOver n (edges_of (pairs_at left.items)))) }
@@ -168,7 +168,9 @@ fn left_in<'a, S: FnMut(&Constraint) -> Result<Option<Cert>, FmEnd>>(
         });
     }
     let pairs = mine.as_slice();
-    let tried = fit_component(alloc, kind, parts, hypotheses, names, name, pairs, memo, solve)?;
+    let tried = fit_component(
+        alloc, kind, parts, hypotheses, names, name, pairs, memo, solve,
+    )?;
     after_fit(alloc, pairs, tried)
 }
 
@@ -197,7 +199,16 @@ pub(crate) fn left_after<'a, S: FnMut(&Constraint) -> Result<Option<Cert>, FmEnd
     let mut left = Vec::new(alloc);
     let mut noted = false;
     for name in 0..symbols {
-        let tried = left_in(alloc, kind, parts, hypotheses, opened, name as u32, memo, solve)?;
+        let tried = left_in(
+            alloc,
+            kind,
+            parts,
+            hypotheses,
+            opened,
+            name as u32,
+            memo,
+            solve,
+        )?;
         noted |= tried.noted;
         match tried.made {
             Some(mut more) => left.append(&mut more)?,

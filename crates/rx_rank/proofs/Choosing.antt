@@ -8,7 +8,7 @@ use Rattle.rx_poly.specs.declared.body.Body.{Body}
 use Rattle.rx_pairs.specs.declared.pair.Pair.{Pair}
 use Rattle.rx_term.specs.declared.rule_set.SymInfo.{SymInfo}
 use Rattle.rx_rank.specs.Answers.{IsChosen, IsFirstFit}
-use Rattle.rx_term.proofs.Places.{at_place, from_nowhere, from_place}
+use Rattle.rx_term.proofs.Places.{from_nowhere, from_place}
 use Rattle.rx_solve.specs.Attempts.{Tried, first_applying, made_or}
 use Rattle.rx_rank.proofs.TryLaws.{decided, first_append, first_none, none_made, noted_alone}
 use Rattle.rx_rank.specs.Choices.{RankChoice, all_choices, choosing, plain_choice, raised_choices}

@@ -21,17 +21,19 @@ use Rattle.rx_term.specs.declared.rule_set.RuleParts.{RuleParts}
 use Rattle.rx_term.specs.declared.rule_set.SymInfo.{SymInfo}
 use Rattle.rx_pairs.specs.Columns.{at_right}
 use Rattle.rx_pairs.specs.declared.pair.Pair.{Pair}
-use Rattle.rx_rank.proofs.OwnCandidates.{IsOwnCandidate, candidates_own}
+use Rattle.rx_rank.proofs.OwnRows.{IsAnchorCandidate, anchor_own}
 use Rattle.rx_rank.proofs.OwnValues.{All-flat_map, AreOwn, choice_own, filled_own, made_by_one, made_of_both, none_own, products_own, length-choice, length-filled, length-without}
-use Rattle.rx_rank.specs.Answers.{IsComponentFit, IsFirstFit, IsOwn, pair_passes}
+use Rattle.rx_rank.specs.Answers.{AreOf, IsComponentFit, IsFirstFit, IsOwn, pair_passes, partition_of}
 use Rattle.rx_anchors.specs.Choices.{products}
 use Rattle.rx_anchors.specs.Members.{arity_of, is_anchor, is_member, members, symbols_of}
+use Rattle.rx_anchors.specs.declared.members.Members.{Members}
 use Rattle.rx_anchors.specs.Values.{polynomial_of, with_choice, without_polynomials}
-use Rattle.rx_rank.specs.Candidates.{are_noted, candidate_lists, candidates}
+use Rattle.rx_rank.specs.Candidates.{are_noted, candidates_at}
 use Rattle.rx_rank.specs.Choices.{RankChoice, all_choices, first_serving, from_target, hold_with, instance_on, is_ready, next_first, order_by, order_of, pairs_from, plain_choice, raised_by, raised_choices, serving, without}
-use Rattle.rx_rank.specs.Ranking.{anchors, arities, component, first_fit, has_domain_row, most_choices, others, raisable}
+use Rattle.rx_rank.specs.Ranking.{Partition, first_fit, fit_by, parted, raisable, stated_partition}
 use Rattle.rx_rank.specs.Tries.{and_then, kept_tried, noting}
 use Rattle.rx_rank.specs.declared.fitting.Fit.{Fit}
+use Rattle.rx_rank.specs.declared.kind.RankingKind.{RankingKind}
 
 -- ---- orders
 
@@ -143,133 +145,138 @@ all_of_lists P symbols lists all =
     (λ polys here. All-map Q (λ f. record { raised = Some f; polys = polys }) symbols
     (λ k d h. here)))
 
-module _ (parts : RuleParts) (hypotheses : List Rule) (names : List ℕ) (c : ℕ) (pairs : List Pair)
-  where
-    abbrev R : ℕ → Body → Type 0
-    R = IsOwn parts hypotheses names c pairs
+-- ---- the stated anchors
 
-    -- the pair's variables are those of the pairs
-    abbrev IsOwnPair : Pair → Type 0
-    IsOwnPair pair =
-        (test : ℕ → Bool) → list_all (pair_passes test) pairs ≡ true → pair_passes test pair ≡ true
+pub stated_is : (parts : RuleParts) (hypotheses : List Rule) (names : List ℕ) (c : ℕ)
+    (made : Members) (infos : List SymInfo) → infos ≡ parts.symbols →
+    made.anchors.items ≡ filter (is_anchor infos hypotheses) (members names c) →
+    made.others.items ≡ filter (λ f. not (is_anchor infos hypotheses f)) (members names c) →
+    partition_of made ≡ stated_partition parts hypotheses names c
+stated_is parts hypotheses names c made infos same anchors others =
+    let first : made.anchors.items ≡ filter (is_anchor parts.symbols hypotheses) (members names c) =
+    anchors ∙ ap (λ s. filter (is_anchor s hypotheses) (members names c)) same in
+    let second : made.others.items ≡
+    filter (λ f. not (is_anchor parts.symbols hypotheses f)) (members names c) =
+    others ∙ ap (λ s. filter (λ f. not (is_anchor s hypotheses f)) (members names c)) same in
+    λ j. record { anchors = first j; others = second j }
 
-    pairs_own : (rest : List Pair) → ((test : ℕ → Bool) → list_all (pair_passes test) pairs ≡ true →
-        list_all (pair_passes test) rest ≡ true) → All IsOwnPair rest
-    pairs_own [] own = All-nil IsOwnPair
-    pairs_own (pair ∷ rest) own =
-        All-cons IsOwnPair pair rest (λ test h.
-        (and_parts (pair_passes test pair) (list_all (pair_passes test) rest) (own test h)).0)
-        (pairs_own rest (λ test h. (and_parts (pair_passes test pair)
-        (list_all (pair_passes test) rest) (own test h)).1))
+module _ (kind : RankingKind) (parts : RuleParts) (hypotheses : List Rule) (names : List ℕ) (c : ℕ)
+    (pairs : List Pair) where
+  abbrev R : ℕ → Body → Type 0
+  R = IsOwn kind parts hypotheses names c pairs
 
-    right_passes : (test : ℕ → Bool) (pair : Pair) → pair_passes test pair ≡ true →
-        list_all (passes test) pair.right_args ≡ true
-    right_passes test pair h =
-        (and_parts (list_all (passes test) pair.left_args) (list_all (passes test) pair.right_args)
-        (and_parts (rows_pass test pair.phi) (list_all (passes test) pair.left_args &&
-        list_all (passes test) pair.right_args) h).1).1
+  -- the pair's variables are those of the pairs
+  abbrev IsOwnPair : Pair → Type 0
+  IsOwnPair pair =
+      (test : ℕ → Bool) → list_all (pair_passes test) pairs ≡ true → pair_passes test pair ≡ true
 
-    from_target_own : (f : ℕ) → is_member names c f ≡ true → (values : List (Option Body)) →
-        AreOwn R values → (mine : List Pair) (pair : Pair) → IsOwnPair pair → (up : Bool) (p : Body)
-        → (from_target up (arity_of parts.symbols f) values mine pair).made ≡ Some p → R f p
-    from_target_own f member values own mine pair own_pair up p e =
-        let arity = arity_of parts.symbols f in
-        let first = instance_on pair (polynomial_of values pair.right.0) in
-        let both = and_then first (raised_by up) in
-        let two = made_of_both both.made both.noted (serving arity values mine) p e in
-        let served = served_by arity values mine two.0 p two.2 in
-        let one = made_of_both first.made first.noted (raised_by up) two.0 two.1 in
-        let made = instance_made pair (polynomial_of values pair.right.0) one.0 one.1 in
-        let target = own pair.right.0 made.0 made.1 in
-        record {
-          member = member;
-          over = subst (λ q. uses_below arity q ≡ true) served.1 served.0;
-          own_variables = λ test h g.
-              subst (λ q. passes test q ≡ true) served.1
-              (raised_passes test up one.0 two.0 one.2
-              (subst (λ q. passes test q ≡ true) (sym made.2)
-              (instance_own test pair.right_args made.0 (right_passes test pair (own_pair test g))
-              (target.own_variables test h g))));
-        }
+  pairs_own : (rest : List Pair) → ((test : ℕ → Bool) → list_all (pair_passes test) pairs ≡ true →
+      list_all (pair_passes test) rest ≡ true) → All IsOwnPair rest
+  pairs_own [] own = All-nil IsOwnPair
+  pairs_own (pair ∷ rest) own =
+      All-cons IsOwnPair pair rest (λ test h.
+      (and_parts (pair_passes test pair) (list_all (pair_passes test) rest) (own test h)).0)
+      (pairs_own rest (λ test h. (and_parts (pair_passes test pair)
+      (list_all (pair_passes test) rest) (own test h)).1))
 
-    serving_own : (f : ℕ) → is_member names c f ≡ true → (up : Bool) (values : List (Option Body))
-        (p : Body) → AreOwn R values
-        → (first_serving up (arity_of parts.symbols f) values (pairs_from f pairs)).made ≡ Some p →
-        R f p
-    serving_own f member up values p own e =
-        let mine = pairs_from f pairs in
-        let arity = arity_of parts.symbols f in
-        made_by_one (R f) (from_target up arity values mine) mine p
-        (All-weaker IsOwnPair (λ pair. (y : Body) → (from_target up arity values mine pair).made ≡
-        Some y → R f y)
-        (λ pair own_pair. from_target_own f member values own mine pair own_pair up) mine
-        (All-filter (λ (pair : Pair). pair.left.0 == f) IsOwnPair pairs
-        (pairs_own pairs (λ test h. h)))) e
+  right_passes : (test : ℕ → Bool) (pair : Pair) → pair_passes test pair ≡ true →
+      list_all (passes test) pair.right_args ≡ true
+  right_passes test pair h =
+      (and_parts (list_all (passes test) pair.left_args) (list_all (passes test) pair.right_args)
+      (and_parts (rows_pass test pair.phi) (list_all (passes test) pair.left_args &&
+      list_all (passes test) pair.right_args) h).1).1
 
-    -- ---- the component
+  from_target_own : (f : ℕ) → is_member names c f ≡ true → (values : List (Option Body)) →
+      AreOwn R values → (mine : List Pair) (pair : Pair) → IsOwnPair pair → (up : Bool) (p : Body)
+      → (from_target up (arity_of parts.symbols f) values mine pair).made ≡ Some p → R f p
+  from_target_own f member values own mine pair own_pair up p e =
+      let arity = arity_of parts.symbols f in
+      let first = instance_on pair (polynomial_of values pair.right.0) in
+      let both = and_then first (raised_by up) in
+      let two = made_of_both both.made both.noted (serving arity values mine) p e in
+      let served = served_by arity values mine two.0 p two.2 in
+      let one = made_of_both first.made first.noted (raised_by up) two.0 two.1 in
+      let made = instance_made pair (polynomial_of values pair.right.0) one.0 one.1 in
+      let target = own pair.right.0 made.0 made.1 in
+      record {
+        member = member;
+        over = subst (λ q. uses_below arity q ≡ true) served.1 served.0;
+        own_variables = λ test h d g.
+            subst (λ q. passes test q ≡ true) served.1
+            (raised_passes test up one.0 two.0 one.2
+            (subst (λ q. passes test q ≡ true) (sym made.2)
+            (instance_own test pair.right_args made.0 (right_passes test pair (own_pair test g))
+            (target.own_variables test h d g))));
+      }
 
-    abbrev IsMember : ℕ → Type 0
-    IsMember f = is_member names c f ≡ true
+  serving_own : (f : ℕ) → is_member names c f ≡ true → (up : Bool) (values : List (Option Body))
+      (p : Body) → AreOwn R values
+      → (first_serving up (arity_of parts.symbols f) values (pairs_from f pairs)).made ≡ Some p →
+      R f p
+  serving_own f member up values p own e =
+      let mine = pairs_from f pairs in
+      let arity = arity_of parts.symbols f in
+      made_by_one (R f) (from_target up arity values mine) mine p
+      (All-weaker IsOwnPair (λ pair. (y : Body) → (from_target up arity values mine pair).made ≡
+      Some y → R f y)
+      (λ pair own_pair. from_target_own f member values own mine pair own_pair up) mine
+      (All-filter (λ (pair : Pair). pair.left.0 == f) IsOwnPair pairs
+      (pairs_own pairs (λ test h. h)))) e
 
-    all_members : All IsMember (members names c)
-    all_members = filter_passes (is_member names c) (symbols_of (length names))
+  -- ---- the component
 
-    own_candidates : (fs : List ℕ) → All IsMember fs →
-        All (λ f. All (R f) (candidates names c (parts.rules ++ hypotheses)
-        (arity_of parts.symbols f))) fs
-    own_candidates fs all =
-        All-weaker IsMember (λ f. All (R f) (candidates names c (parts.rules ++ hypotheses)
-        (arity_of parts.symbols f)))
-        (λ f member. All-weaker (IsOwnCandidate (parts.rules ++ hypotheses)
-        (arity_of parts.symbols f)) (R f)
-        (λ p own. record {
-          member = member;
-          over = own.over;
-          own_variables = λ test h g.
-              own.own_variables test h;
-        })
-        (candidates names c (parts.rules ++ hypotheses) (arity_of parts.symbols f))
-        (candidates_own names c (parts.rules ++ hypotheses) (arity_of parts.symbols f))) fs all
+  abbrev IsMember : ℕ → Type 0
+  IsMember f = is_member names c f ≡ true
 
-    mapped_twice : (fs : List ℕ) → candidate_lists names c (parts.rules ++ hypotheses)
-        (map (arity_of parts.symbols) fs)
-        ≡ map (λ f. candidates names c (parts.rules ++ hypotheses) (arity_of parts.symbols f)) fs
-    mapped_twice [] = refl
-    mapped_twice (f ∷ fs) =
-        ap (λ rest. candidates names c (parts.rules ++ hypotheses) (arity_of parts.symbols f) ∷
-        rest)
-        (mapped_twice fs)
+  all_members : All IsMember (members names c)
+  all_members = filter_passes (is_member names c) (symbols_of (length names))
 
-    -- the first fit choice of the component
-    pub component_fit : (order : List ℕ) (fit : Fit) →
-        order_of pairs (others parts hypotheses names c) ≡ Some order
-        → IsFirstFit parts.symbols pairs (anchors parts hypotheses names c) order
-        (all_choices (raisable parts hypotheses names c)
-        (take most_choices (products (candidate_lists names c (parts.rules ++ hypotheses)
-        (arities parts hypotheses names c))))) fit
-        → IsComponentFit parts hypotheses names c pairs fit
-    component_fit order fit ordered first =
-        let fs = anchors parts hypotheses names c in
-        let lists = λ (f : ℕ). candidates names c (parts.rules ++ hypotheses)
-        (arity_of parts.symbols f) in
-        let own_choices : All (AllZip R fs) (products (map lists fs)) =
-        products_own R lists fs (own_candidates fs
-        (All-filter _ IsMember (members names c) all_members)) in
-        let taken : All (AllZip R fs) (take most_choices
-        (products (candidate_lists names c (parts.rules ++ hypotheses)
-        (arities parts hypotheses names c)))) =
-        subst (λ ls. All (AllZip R fs) (take most_choices (products ls))) (sym (mapped_twice fs))
-        (All-take (AllZip R fs) most_choices (products (map lists fs)) own_choices) in
+  own_candidates : (fs : List ℕ) → All IsMember fs →
+      All (λ f. All (R f) (candidates_at kind parts hypotheses names c f)) fs
+  own_candidates fs all =
+      All-weaker IsMember (λ f. All (R f) (candidates_at kind parts hypotheses names c f))
+      (λ f member. All-weaker (IsAnchorCandidate kind parts hypotheses f) (R f)
+      (λ p own. record {
+        member = member;
+        over = own.over;
+        own_variables = λ test h d g. own.own_variables test h d;
+      })
+      (candidates_at kind parts hypotheses names c f)
+      (anchor_own kind parts hypotheses f names c)) fs all
+
+  -- whatever symbols are the anchors, all are of the component
+  pub parted_members : (test : ℕ → Bool) → AreOf names c (parted test (members names c))
+  parted_members test = record {
+    anchors = All-filter test IsMember (members names c) all_members;
+    others = All-filter (λ f. not (test f)) IsMember (members names c) all_members;
+  }
+
+  module _ (most : ℕ) (part : Partition) (mine : AreOf names c part) where
+    abbrev part_lists : List (List Body)
+    part_lists = map (candidates_at kind parts hypotheses names c) part.anchors
+
+    abbrev part_choices : List RankChoice
+    part_choices = all_choices (raisable parts part.others) (take most (products part_lists))
+
+    -- the first fit choice of the component with these anchors
+    part_fit : (order : List ℕ) (fit : Fit) → order_of pairs part.others ≡ Some order →
+        IsFirstFit parts.symbols pairs part.anchors order part_choices fit →
+        IsComponentFit kind parts hypotheses names c pairs fit
+    part_fit order fit ordered first =
+        let fs = part.anchors in
+        let taken : All (AllZip R fs) (take most (products part_lists)) =
+        All-take (AllZip R fs) most (products part_lists)
+        (products_own R (candidates_at kind parts hypotheses names c) fs
+        (own_candidates fs mine.anchors)) in
         let zipped : AllZip R fs first.choice.polys =
-        All-contains (λ (choice : RankChoice). AllZip R fs choice.polys) _ first.choice
-        (all_of_lists (AllZip R fs) (raisable parts hypotheses names c) _ taken) first.among in
+        All-contains (λ (choice : RankChoice). AllZip R fs choice.polys) part_choices first.choice
+        (all_of_lists (AllZip R fs) (raisable parts part.others) (take most (products part_lists))
+        taken) first.among in
         let start = with_choice (without_polynomials (length parts.symbols)) fs first.choice.polys
         in
         let raised = first.choice.raised in
         let in_order : All IsMember order =
-        order_has IsMember (length (others parts hypotheses names c)) pairs
-        (others parts hypotheses names c) order
-        (All-filter _ IsMember (members names c) all_members) ordered in
+        order_has IsMember (length part.others) pairs part.others order mine.others ordered in
         let Serves : ℕ → Type 0 = λ f. (up : Bool) (vs : List (Option Body)) (p : Body) →
         AreOwn R vs →
         (first_serving up (arity_of parts.symbols f) vs (pairs_from f pairs)).made ≡ Some p →
@@ -291,84 +298,53 @@ module _ (parts : RuleParts) (hypotheses : List Rule) (names : List ℕ) (c : �
         }
 
     -- what is handed on from call to call
-    pub record Handed (infos : List SymInfo)
-        (made_anchors made_others anchor_slice other_slice raisable_slice : List ℕ)
+    pub record Handed (infos : List SymInfo) (anchors others symbols : List ℕ)
         (lists : List (List Body)) (noted : Bool) (order : Option (List ℕ)) : Type 0 where
-      pub infos_is : infos ≡ parts.symbols
-      pub made_anchors_is : made_anchors ≡ filter (is_anchor infos hypotheses) (members names c)
-      pub made_others_is : made_others ≡ filter (λ f. not (is_anchor infos hypotheses f))
-          (members names c)
-      pub anchor_slice_is : anchor_slice ≡ made_anchors
-      pub other_slice_is : other_slice ≡ made_others
-      pub raisable_slice_is : raisable_slice ≡ cond (has_domain_row parts) other_slice []
-      pub made_lists_is : lists ≡ candidate_lists names c (parts.rules ++ hypotheses)
-          (map (arity_of parts.symbols) anchor_slice)
-      pub made_noted_is : noted ≡ are_noted names c (parts.rules ++ hypotheses)
-          (map (arity_of parts.symbols) anchor_slice)
-      pub made_order_is : order ≡ order_of pairs other_slice
+      pub infos_are : infos ≡ parts.symbols
+      pub anchors_are : anchors ≡ part.anchors
+      pub others_are : others ≡ part.others
+      pub made_symbols : symbols ≡ raisable parts others
+      pub made_lists : lists ≡ map (candidates_at kind parts hypotheses names c) anchors
+      pub made_noted : noted ≡ are_noted names c (parts.rules ++ hypotheses)
+          (map (arity_of parts.symbols) anchors)
+      pub made_order : order ≡ order_of pairs others
 
-    module _ {infos : List SymInfo}
-        {made_anchors made_others anchor_slice other_slice raisable_slice : List ℕ}
+    module _ {infos : List SymInfo} {anchors others symbols : List ℕ}
         {lists : List (List Body)} {noted : Bool} {order : Option (List ℕ)}
-        (h : Handed infos made_anchors made_others anchor_slice other_slice raisable_slice lists
-        noted order) where
-      anchors_are : anchor_slice ≡ anchors parts hypotheses names c
-      anchors_are =
-          h.anchor_slice_is ∙ h.made_anchors_is ∙
-          ap (λ s. filter (is_anchor s hypotheses) (members names c)) h.infos_is
+        (h : Handed infos anchors others symbols lists noted order) where
+      symbols_are : symbols ≡ raisable parts part.others
+      symbols_are = h.made_symbols ∙ ap (raisable parts) h.others_are
 
-      others_are : other_slice ≡ others parts hypotheses names c
-      others_are =
-          h.other_slice_is ∙ h.made_others_is ∙
-          ap (λ s. filter (λ f. not (is_anchor s hypotheses f)) (members names c)) h.infos_is
-
-      raisables_are : raisable_slice ≡ raisable parts hypotheses names c
-      raisables_are =
-          h.raisable_slice_is ∙ ap (λ fs. cond (has_domain_row parts) fs []) others_are
-
-      lists_are : lists ≡ candidate_lists names c (parts.rules ++ hypotheses)
-          (arities parts hypotheses names c)
+      lists_are : lists ≡ part_lists
       lists_are =
-          h.made_lists_is ∙ ap (λ fs. candidate_lists names c (parts.rules ++ hypotheses)
-          (map (arity_of parts.symbols) fs)) anchors_are
+          h.made_lists ∙ ap (map (candidates_at kind parts hypotheses names c)) h.anchors_are
 
       noted_are : noted ≡ are_noted names c (parts.rules ++ hypotheses)
-          (arities parts hypotheses names c)
+          (map (arity_of parts.symbols) part.anchors)
       noted_are =
-          h.made_noted_is ∙ ap (λ fs. are_noted names c (parts.rules ++ hypotheses)
-          (map (arity_of parts.symbols) fs)) anchors_are
+          h.made_noted ∙ ap (λ fs. are_noted names c (parts.rules ++ hypotheses)
+          (map (arity_of parts.symbols) fs)) h.anchors_are
 
-      order_are : order ≡ order_of pairs (others parts hypotheses names c)
-      order_are = h.made_order_is ∙ ap (order_of pairs) others_are
+      order_are : order ≡ order_of pairs part.others
+      order_are = h.made_order ∙ ap (order_of pairs) h.others_are
 
-      -- what comes of the choices is what comes of the component
-      pub component_is :
-          noting noted (first_fit infos pairs anchor_slice raisable_slice lists order) ≡
-          component parts hypotheses names c pairs
-      component_is =
-          λ j. noting (noted_are j) (first_fit (h.infos_is j) pairs (anchors_are j)
-          (raisables_are j) (lists_are j) (order_are j))
+      -- what comes of the choices is what comes of these anchors
+      pub part_is : noting noted (first_fit most infos pairs anchors symbols lists order) ≡
+          fit_by kind parts hypotheses most names c pairs part
+      part_is =
+          λ j. noting (noted_are j) (first_fit most (h.infos_are j) pairs (h.anchors_are j)
+          (symbols_are j) (lists_are j) (order_are j))
 
-      pub fits_component : (made : Option Fit) → IfSome made (λ fit. (fs : List ℕ) ×
+      pub fits_part : (made : Option Fit) → IfSome made (λ fit. (fs : List ℕ) ×
           (order ≡ Some fs) ×
-          IsFirstFit infos pairs anchor_slice fs
-          (all_choices raisable_slice (take most_choices (products lists))) fit)
-          → IfSome made (IsComponentFit parts hypotheses names c pairs)
-      fits_component None first = tt
-      fits_component (Some fit) first =
-          component_fit first.0 fit (sym order_are ∙ first.1)
-          (subst (λ s. IsFirstFit s pairs (anchors parts hypotheses names c) first.0
-          (all_choices (raisable parts hypotheses names c)
-          (take most_choices (products (candidate_lists names c (parts.rules ++ hypotheses)
-          (arities parts hypotheses names c))))) fit) h.infos_is
-          (subst (λ a. IsFirstFit infos pairs a first.0
-          (all_choices (raisable parts hypotheses names c)
-          (take most_choices (products (candidate_lists names c (parts.rules ++ hypotheses)
-          (arities parts hypotheses names c))))) fit) anchors_are
-          (subst (λ fs. IsFirstFit infos pairs anchor_slice first.0
-          (all_choices fs
-          (take most_choices (products (candidate_lists names c (parts.rules ++ hypotheses)
-          (arities parts hypotheses names c))))) fit) raisables_are
-          (subst (λ ls. IsFirstFit infos pairs anchor_slice first.0
-          (all_choices raisable_slice (take most_choices (products ls))) fit) lists_are
-          first.2))))
+          IsFirstFit infos pairs anchors fs (all_choices symbols (take most (products lists))) fit)
+          → IfSome made (IsComponentFit kind parts hypotheses names c pairs)
+      fits_part None first = tt
+      fits_part (Some fit) first =
+          part_fit first.0 fit (sym order_are ∙ first.1)
+          (subst (λ s. IsFirstFit s pairs part.anchors first.0 part_choices fit) h.infos_are
+          (subst (λ hs. IsFirstFit infos pairs hs first.0 part_choices fit) h.anchors_are
+          (subst (λ fs. IsFirstFit infos pairs anchors first.0
+          (all_choices fs (take most (products part_lists))) fit) symbols_are
+          (subst (λ ls. IsFirstFit infos pairs anchors first.0
+          (all_choices symbols (take most (products ls))) fit) lists_are first.2))))

@@ -23,6 +23,18 @@ use Rattle.rx_rank.specs.Candidates.{all_candidates, candidates, candidates_by, 
 use Rattle.rx_anchors.specs.Members.{is_rule_of}
 use Rattle.rx_rank.specs.Tries.{kept_tried}
 
+-- what is true of all is true of them each once
+pub each_once : (P : Body → Type 0) (ps done : List Body) → All P done → All P ps →
+    All P (fold with_candidate done ps)
+each_once P [] done own all = own
+each_once P (p ∷ ps) done own all =
+    each_once P ps (with_candidate done p) (by (list_any (λ q. (body_equal.ghosts).eq q p) done))
+    (All-tail P p ps all) where
+      by : (b : Bool) → All P (cond b done (done ++ p ∷ []))
+      by true = own
+      by false =
+          All-append P done (p ∷ []) own (All-cons P p [] (All-head P p ps all) (All-nil P))
+
 module _ (whole : List Rule) (arity : ℕ) where
   -- over n arguments, and without other variables than those of the rules' rows
   pub record IsOwnCandidate (p : Body) : Type 0 where
@@ -104,24 +116,11 @@ module _ (whole : List Rule) (arity : ℕ) where
         by None own rest = rest
         by (Some p) own rest = All-cons IsOwnCandidate p (applying ts) (own p refl) rest
 
-  once_own : (ps done : List Body) → All IsOwnCandidate done → All IsOwnCandidate ps →
-      All IsOwnCandidate (fold with_candidate done ps)
-  once_own [] done own all = own
-  once_own (p ∷ ps) done own all =
-      once_own ps (with_candidate done p) (by (list_any (λ q. (body_equal.ghosts).eq q p) done))
-      (All-tail IsOwnCandidate p ps all) where
-        by : (b : Bool) → All IsOwnCandidate (cond b done (done ++ p ∷ []))
-        by true = own
-        by false =
-            All-append IsOwnCandidate done (p ∷ []) own
-            (All-cons IsOwnCandidate p [] (All-head IsOwnCandidate p ps all)
-            (All-nil IsOwnCandidate))
-
 -- all candidates are such
 pub candidates_own : (names : List ℕ) (c : ℕ) (rules : List Rule) (arity : ℕ) →
     All (IsOwnCandidate rules arity) (candidates names c rules arity)
 candidates_own names c rules arity =
-    once_own rules arity (applying (all_candidates names c rules arity)) []
+    each_once (IsOwnCandidate rules arity) (applying (all_candidates names c rules arity)) []
     (All-nil (IsOwnCandidate rules arity))
     (applying_own rules arity (all_candidates names c rules arity)
     (rules_own rules arity names c rules (λ test h. h)))

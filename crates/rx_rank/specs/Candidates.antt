@@ -1,6 +1,5 @@
--- The polynomials that an anchor of a component may get: entries, heads and left roots of
--- hypotheses are anchors.
-use Rattle.std.specs.Prelude.{ℕ, Bool, if◌then◌else◌, List, [], ◌∷◌, ◌++◌, map}
+-- The polynomials that an anchor of a component may get, in the plain ranking and in the wider one.
+use Rattle.std.specs.Prelude.{ℕ, Bool, if◌then◌else◌, List, [], ◌∷◌, ◌++◌}
 use Rattle.std.specs.List.{flat_map, fold, list_any}
 use Rattle.rx_plain.specs.Formed.{kept}
 use Rattle.rx_poly.specs.Limits.{is_within}

@@ -1,7 +1,8 @@
 -- The ranking: up to seven rounds, each of a column of heights and a column of polynomials, and a
 -- last column of heights. By heights the pairs between components of the graph of open pairs fall
 -- and are closed. For polynomials each component with an open pair takes its first fit choice, and
--- the pairs that fall are closed. The pairs are those inside the domains.
+-- the pairs that fall are closed; in the wider ranking, where it has none, exchanges of an anchor
+-- with another symbol are tried. The pairs are those inside the domains.
 use Rattle.std.specs.Prelude.{ℕ, zero, suc, ◌==◌, Bool, ◌&&◌, ◌||◌, not, if◌then◌else◌, Option, Some, None, List, [], ◌∷◌, ◌++◌, length, map, take}
 use Rattle.std.specs.List.{filter, flat_map, list_any}
 use Rattle.rx_poly.specs.Normal.{is_empty}
@@ -71,8 +72,8 @@ all_exchanges part = flat_map (λ h. exchanges_of h part.others) part.anchors
 
 module _ (parts : RuleParts) (hypotheses : List Rule) where
   -- the component with that name: its entries, heads and left roots of hypotheses are the anchors
-  abbrev pub stated : List ℕ → ℕ → Partition
-  stated names c = parted (is_anchor parts.symbols hypotheses) (members names c)
+  abbrev pub stated_partition : List ℕ → ℕ → Partition
+  stated_partition names c = parted (is_anchor parts.symbols hypotheses) (members names c)
 
   -- the same, with the other symbol of an exchange as an anchor in place of the anchor of it
   abbrev pub is_exchanged : Exchange → ℕ → Bool
@@ -84,7 +85,7 @@ module _ (parts : RuleParts) (hypotheses : List Rule) where
 
   -- the first of the component's exchanges
   abbrev pub exchanges : List ℕ → ℕ → List Exchange
-  exchanges names c = take most_exchanges (all_exchanges (stated names c))
+  exchanges names c = take most_exchanges (all_exchanges (stated_partition names c))
 
 -- what is tried, and where nothing comes of it, in the wider ranking, the exchanges
 abbrev pub or_exchanged : {A : Type 0} → RankingKind → Tried A → Tried A → Tried A
@@ -109,7 +110,7 @@ module _ (kind : RankingKind) (parts : RuleParts) (hypotheses : List Rule) where
   -- what comes of the component with its pairs
   abbrev pub component : List ℕ → ℕ → List Pair → Tried (List Pair)
   component names c pairs =
-      or_exchanged kind (fit_by most_choices names c pairs (stated parts hypotheses names c))
+      or_exchanged kind (fit_by most_choices names c pairs (stated_partition parts hypotheses names c))
       (first_applying (map (fit_exchanged names c pairs) (exchanges parts hypotheses names c)))
 
   -- without an open pair nothing is tried in it

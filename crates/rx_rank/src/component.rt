@@ -2,7 +2,8 @@
 ghost use Rattle.std.specs.Prelude.{◌≡◌, IfOk, IfSome, map};
 ghost use Rattle.rx_rank.specs.Answers.{IsComponentFit, pairs_at, partition_of, still_open};
 ghost use Rattle.rx_rank.specs.Answers.{tried_as};
-ghost use Rattle.rx_rank.specs.Ranking.{component, exchanges, fit_exchanged, or_exchanged, stated};
+ghost use Rattle.rx_rank.specs.Ranking.{component, exchanges, fit_exchanged, or_exchanged};
+ghost use Rattle.rx_rank.specs.Ranking.{stated_partition};
 ghost use Rattle.rx_solve.specs.Answers.{IsSolver};
 ghost use Rattle.rx_solve.specs.Attempts.{first_applying};
 
@@ -36,7 +37,7 @@ fn or_exchanged<S: FnMut(&Constraint) -> Result<Option<Cert>, FmEnd>>(
 ) -> Result<Attempt<Fit>, NoMemory>
     requires solver { IsSolver S.FnMut solve.old }
     requires members { partition_of members.now ≡
-        stated component.now.parts.now component.now.hypotheses.now component.now.names.now
+        stated_partition component.now.parts.now component.now.hypotheses.now component.now.names.now
         component.now.name }
     requires first { IfSome first.made
         (IsComponentFit component.now.kind component.now.parts.now component.now.hypotheses.now
@@ -70,9 +71,9 @@ fn or_exchanged<S: FnMut(&Constraint) -> Result<Option<Cert>, FmEnd>>(
 /// The first fit choice of the component with that name, whose pairs these are: the polynomials of
 /// its symbols, with the certificates by which all pairs hold and some fall. All candidates are
 /// made first. Where a symbol has a domain row and no choice is fit, the choices are tried once
-/// more, each with one symbol raised that is no anchor. In the wider ranking, where none of these
-/// is fit either, at most 64 exchanges of an anchor with another symbol are tried, each with at most
-/// 64 choices in the same way.
+/// more, each with one symbol raised that is no anchor. At most 4,096 choices are tried. In the wider
+/// ranking, where none of these is fit, at most 64 exchanges of an anchor with another symbol are
+/// tried, each with at most 64 choices in the same way.
 pub fn fit_component<S: FnMut(&Constraint) -> Result<Option<Cert>, FmEnd>>(
     alloc: Global,
     kind: RankingKind,

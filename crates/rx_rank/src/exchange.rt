@@ -4,7 +4,7 @@ ghost use Rattle.std.specs.List.{filter};
 ghost use Rattle.rx_rank.specs.Answers.{IsComponentFit, pairs_at, partition_of, still_open};
 ghost use Rattle.rx_rank.specs.Answers.{tried_as};
 ghost use Rattle.rx_rank.specs.Ranking.{all_exchanges, exchanged, exchanges, fit_exchanged};
-ghost use Rattle.rx_rank.specs.Ranking.{is_exchanged, stated};
+ghost use Rattle.rx_rank.specs.Ranking.{is_exchanged, stated_partition};
 ghost use Rattle.rx_solve.specs.Answers.{IsSolver};
 ghost use Rattle.rx_solve.specs.Attempts.{first_applying};
 
@@ -156,7 +156,7 @@ pub(crate) fn first_exchanged<S: FnMut(&Constraint) -> Result<Option<Cert>, FmEn
 ) -> Result<Attempt<Fit>, NoMemory>
     requires solver { IsSolver S.FnMut solve.old }
     requires members { partition_of members.now ≡
-        stated component.now.parts.now component.now.hypotheses.now component.now.names.now
+        stated_partition component.now.parts.now component.now.hypotheses.now component.now.names.now
         component.now.name }
     ensures solver { IsSolver S.FnMut solve.new }
     ensures tried { IfOk result (λ t. tried_as

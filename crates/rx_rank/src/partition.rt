@@ -65,8 +65,8 @@ fn raisable_of<'a>(parts: &RuleParts, others: &'a [u32]) -> &'a [u32]
     if has_domain_row(parts) { others } else { &[] }
 }
 
-/// The first of at most so many choices of candidates that is fit. What the memo has of the pairs is used, and it keeps
-/// what is found out of them.
+/// The first of at most so many choices of candidates that is fit. What the memo has of the pairs is
+/// used, and it keeps what is found out of them.
 fn first_fit_with<S: FnMut(&Constraint) -> Result<Option<Cert>, FmEnd>>(
     alloc: Global,
     most: usize,
@@ -105,8 +105,8 @@ fn first_fit_with<S: FnMut(&Constraint) -> Result<Option<Cert>, FmEnd>>(
     Ok(fit)
 }
 
-/// The first of at most so many choices of these candidates that is fit, where the other symbols have
-/// an order.
+/// The first of at most so many choices of these candidates that is fit, where the other symbols
+/// have an order.
 fn fit_in_order<S: FnMut(&Constraint) -> Result<Option<Cert>, FmEnd>>(
     alloc: Global,
     most: usize,

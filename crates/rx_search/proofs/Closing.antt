@@ -16,6 +16,7 @@ use Rattle.rx_pairs.specs.Lowering.{Descends}
 use Rattle.rx_pairs.specs.Ranks.{bad_rank}
 use Rattle.rx_find_ranks.specs.Found.{LowersAll}
 use Rattle.rx_find_ranks.specs.declared.ranking.Ranking.{Ranking}
+use Rattle.rx_rank.specs.declared.kind.RankingKind.{RankingKind}
 use Rattle.rx_log.specs.Acceptance.{Accepted, Checked, IsAccepted, ◌>>=◌, after_steps, concluded, kept_by, kept_over, of_descent, once_covered, once_inside, once_kept, once_lawful, once_ranked, used, verdict_over}
 use Rattle.rx_log.specs.Acceptance as acceptance
 use Rattle.rx_log.specs.declared.log.Log.{Log}
@@ -42,12 +43,14 @@ use Rattle.rx_deepening.specs.declared.outcome.Outcome.TheVariants as outcomes
 
 -- ---- closed nodes
 
-pub no_goal_left : (parts : RuleParts) (depth budget : ℕ) (first node : nodes.Node)
-    → outcome budget (all_visits (settled parts) (menu parts) depth first) ≡ outcomes.Closed node →
+pub no_goal_left : (kind : RankingKind) (parts : RuleParts) (depth budget : ℕ)
+    (first node : nodes.Node)
+    → outcome budget (all_visits (settled parts)
+    (menu kind parts) depth first) ≡ outcomes.Closed node →
     node.state.goals ≡ []
-no_goal_left parts depth budget first node e =
+no_goal_left kind parts depth budget first node e =
     no_goal node.state.goals
-    (closed_told (λ (n : nodes.Node). is_closed n.state.goals) (settled parts) (menu parts)
+    (closed_told (λ (n : nodes.Node). is_closed n.state.goals) (settled parts) (menu kind parts)
     (λ n. refl) depth budget first node e)
 
 -- ---- of calls
@@ -56,42 +59,48 @@ pub closed_node : {R : Type 0} (P : Node → Type 0) (o : Outcome Node R) (node 
     outcomes.Closed node → IfClosed P o → P node
 closed_node P o node is holds = subst (IfClosed P) is holds
 
-pub closed_goals : (parts : RuleParts) (depth budget : ℕ) (first : nodes.Node)
+pub closed_goals : (kind : RankingKind) (parts : RuleParts) (depth budget : ℕ) (first : nodes.Node)
     (o : Outcome Node (List Row)) (node : Node)
-    → seen_outcome node_of o ≡ outcome budget (all_visits (settled parts) (menu parts) depth first)
+    → seen_outcome node_of o ≡ outcome budget (all_visits (settled parts)
+    (menu kind parts) depth first)
     → o ≡ outcomes.Closed node → node.state.goals ≡ []
-closed_goals parts depth budget first o node seen is =
-    no_goal_left parts depth budget first (node_of node) (sym seen ∙ ap (seen_outcome node_of) is)
+closed_goals kind parts depth budget first o node seen is =
+    no_goal_left kind parts depth budget first (node_of node) (sym seen
+    ∙ ap (seen_outcome node_of) is)
 
-pub closed_steps : (parts : RuleParts) (depth budget : ℕ) (first : nodes.Node)
+pub closed_steps : (kind : RankingKind) (parts : RuleParts) (depth budget : ℕ) (first : nodes.Node)
     (o : Outcome Node (List Row)) (node : Node) (steps : List Step)
-    → seen_outcome node_of o ≡ outcome budget (all_visits (settled parts) (menu parts) depth first)
+    → seen_outcome node_of o ≡ outcome budget (all_visits (settled parts)
+    (menu kind parts) depth first)
     → o ≡ outcomes.Closed node → steps ≡ node.steps
-    → search.of_outcome (outcome budget (all_visits (settled parts) (menu parts) depth first)) ≡
+    → search.of_outcome (outcome budget (all_visits (settled parts)
+    (menu kind parts) depth first)) ≡
     search.Closed (map move_of steps)
-closed_steps parts depth budget first o node steps seen is same =
+closed_steps kind parts depth budget first o node steps seen is same =
     ap search.of_outcome (sym seen ∙ ap (seen_outcome node_of) is) ∙
     ap (λ xs. search.Closed (map move_of xs)) (sym same)
 
 -- ---- logs
 
 -- a closed node is a proof
-pub node_proved : (parts : RuleParts) (goal : Equation) (node : Node) (steps : List Step)
-    (hypotheses : List Rule) → IsNode parts goal node → node.state.goals ≡ [] →
+pub node_proved : (kind : RankingKind) (parts : RuleParts) (goal : Equation) (node : Node)
+    (steps : List Step)
+    (hypotheses : List Rule) → IsNode kind parts goal node → node.state.goals ≡ [] →
     steps ≡ node.steps → hypotheses ≡ node.state.hypotheses →
-    IsProved parts goal steps hypotheses
-node_proved parts goal node steps hypotheses is closed same kept =
-    subst (λ (hs : List Rule). IsProved parts goal steps hs) (sym kept)
-    (subst (λ (xs : List Step). IsProved parts goal xs node.state.hypotheses) (sym same) (record {
+    IsProved kind parts goal steps hypotheses
+node_proved kind parts goal node steps hypotheses is closed same kept =
+    subst (λ (hs : List Rule). IsProved kind parts goal steps hs) (sym kept)
+    (subst (λ (xs : List Step). IsProved kind parts goal xs node.state.hypotheses) (sym same)
+    (record {
       reached =
           subst (λ goals. IsReachedBy parts goal node.steps
           (record { goals = goals; hypotheses = node.state.hypotheses })) closed is.reached;
       ranked = is.ranked;
     }))
 
-module _ (parts : RuleParts) (goal : Equation) (made : List Step)
+module _ (kind : RankingKind) (parts : RuleParts) (goal : Equation) (made : List Step)
     (hypotheses : List Rule) (log : Log) (ranking : Ranking)
-    (is : IsProved parts goal made hypotheses)
+    (is : IsProved kind parts goal made hypotheses)
     (covers : covering parts log.covers ≡ Covers) (steps : log.steps ≡ made)
     (table : log.table ≡ ranking.table)
     (certs : log.pairs ≡ ranking.certs) (lowers : LowersAll parts hypotheses ranking) where
@@ -117,10 +126,12 @@ module _ (parts : RuleParts) (goal : Equation) (made : List Step)
 -- ---- logs with domains
 
 -- where these are found, a log that is accepted inside them is accepted with them
-pub accepted_inside : (parts : RuleParts) (goal : Equation) (log made : Log) (domains : Domains)
-    → made ≡ record log { domains = Some domains } → AreFound parts goal domains
-    → verdict_over (with_domains parts domains.rows) goal log ≡ Accepted → IsAccepted parts goal made
-accepted_inside parts goal log made domains same found is =
+pub accepted_inside : (kind : RankingKind) (parts : RuleParts) (goal : Equation) (log made : Log)
+    (domains : Domains)
+    → made ≡ record log { domains = Some domains } → AreFound kind parts goal domains
+    → verdict_over (with_domains parts domains.rows) goal log ≡ Accepted →
+    IsAccepted parts goal made
+accepted_inside kind parts goal log made domains same found is =
     let set : RuleParts = with_domains parts domains.rows in
     let kept : Checked (List Rule) = kept_over set goal log in
     subst (IsAccepted parts goal) (sym same)

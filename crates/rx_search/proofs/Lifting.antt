@@ -17,6 +17,7 @@ use Rattle.rx_inference.specs.declared.step.Step.{Step}
 use Rattle.rx_lemma.specs.Generalising.{generalisations}
 use Rattle.rx_lemma.specs.Lemmas.{Generalisation}
 use Rattle.rx_rank.specs.Ranking.{ranked}
+use Rattle.rx_rank.specs.declared.kind.RankingKind.{RankingKind}
 use Rattle.rx_steps.specs.Alone.{alone, onto}
 use Rattle.rx_moves.specs.Answers.{IsTaken}
 use Rattle.rx_settle.specs.Known.{lifted}
@@ -36,14 +37,15 @@ use Rattle.rx_settle.specs.Settling.{most_moves}
 
 -- ---- all choices
 
-module _ (parts : RuleParts) (state : State) where
-  each_seen : (ks : List KnownChoice) → map (chosen_by parts state) ks ≡
-      map (chosen_of parts) (map (attempted_onto state) (map seen_known ks))
+module _ (kind : RankingKind) (parts : RuleParts) (state : State) where
+  each_seen : (ks : List KnownChoice) → map (chosen_by kind parts state) ks ≡
+      map (chosen_of kind parts) (map (attempted_onto state) (map seen_known ks))
   each_seen [] = refl
-  each_seen (k ∷ ks) = ap (λ cs. chosen_by parts state k ∷ cs) (each_seen ks)
+  each_seen (k ∷ ks) = ap (λ cs. chosen_by kind parts state k ∷ cs) (each_seen ks)
 
 -- and what is attempted is that of the goal alone
-module _ (parts : RuleParts) (goal : Equation) (goals : List Equation) (hypotheses : List Rule) where
+module _ (parts : RuleParts) (goal : Equation) (goals : List Equation)
+    (hypotheses : List Rule) where
   abbrev here : State
   here = record { goals = goal ∷ goals; hypotheses = hypotheses }
 
@@ -97,16 +99,18 @@ module _ (parts : RuleParts) (goal : Equation) (goals : List Equation) (hypothes
       map (attempted_onto here) (attempted_at parts (alone goal) goal)
   all_onto = all_onto_by (generalisations parts goal)
 
-  known_here : (ks : List KnownChoice) → map seen_known ks ≡ attempted_at parts (alone goal) goal
-      → map (chosen_by parts here) ks ≡ chosen_at parts here goal
-  known_here ks seen =
-      each_seen parts here ks
-      ∙ ap (λ all. map (chosen_of parts) (map (attempted_onto here) all)) seen
-      ∙ sym (ap (map (chosen_of parts)) all_onto)
+  known_here : (kind : RankingKind) (ks : List KnownChoice) → map seen_known ks ≡
+      attempted_at parts (alone goal) goal
+      → map (chosen_by kind parts here) ks ≡ chosen_at kind parts here goal
+  known_here kind ks seen =
+      each_seen kind parts here ks
+      ∙ ap (λ all. map (chosen_of kind parts) (map (attempted_onto here) all)) seen
+      ∙ sym (ap (map (chosen_of kind parts)) all_onto)
 
 -- ---- what is known of the first goal
 
-module _ (parts : RuleParts) (state : State) (first : Equation) (known : List KnownChoice)
+module _ (kind : RankingKind) (parts : RuleParts) (state : State) (first : Equation)
+    (known : List KnownChoice)
     (begins : Some first ≡ slice_get state.goals 0) (is : IsRight parts first known) where
   abbrev with_goals : List Equation → State
   with_goals gs = record { goals = gs; hypotheses = state.hypotheses }
@@ -118,21 +122,21 @@ module _ (parts : RuleParts) (state : State) (first : Equation) (known : List Kn
       (λ k right. record { goal = first; first = begins; right = right }) known is.right
 
   chosen_by_goals : (gs : List Equation) → Some first ≡ slice_get gs 0 →
-      map (chosen_by parts (with_goals gs)) known ≡ chosen_at parts (with_goals gs) first
+      map (chosen_by kind parts (with_goals gs)) known ≡ chosen_at kind parts (with_goals gs) first
   chosen_by_goals [] e = cc
   chosen_by_goals (g ∷ gs) e =
       let same : first ≡ g = cc in
-      subst (λ x. map (chosen_by parts (with_goals (x ∷ gs))) known ≡
-      chosen_at parts (with_goals (x ∷ gs)) first) same
-      (known_here parts first gs state.hypotheses known is.seen)
+      subst (λ x. map (chosen_by kind parts (with_goals (x ∷ gs))) known ≡
+      chosen_at kind parts (with_goals (x ∷ gs)) first) same
+      (known_here parts first gs state.hypotheses kind known is.seen)
 
   -- and gives the choices
-  pub chosen_known : map (chosen_by parts state) known ≡ chosen_at parts state first
+  pub chosen_known : map (chosen_by kind parts state) known ≡ chosen_at kind parts state first
   chosen_known = chosen_by_goals state.goals begins
 
 -- ---- one choice at a node
 
-module _ (parts : RuleParts) (from : Node) (k : KnownChoice)
+module _ (kind : RankingKind) (parts : RuleParts) (from : Node) (k : KnownChoice)
     (is : IsRightAt parts from.state k) where
   abbrev state_with : List Equation → State
   state_with gs = record { goals = gs; hypotheses = from.state.hypotheses }
@@ -168,15 +172,17 @@ module _ (parts : RuleParts) (from : Node) (k : KnownChoice)
       (refl, taken_by step taken from.state.goals is.first)
 
   reached_here : (goal : Equation) → IsReached parts goal from → (o : Option Step) →
-      IfSome o IsTakenAlone → IfSome (led most_moves from o k.noted after_here).node (IsReached parts goal)
+      IfSome o IsTakenAlone → IfSome (led most_moves from o k.noted after_here).node
+      (IsReached parts goal)
   reached_here goal reached None taken = tt
   reached_here goal reached (Some step) taken =
       reached_by parts from after_here (tried_of (Some step)) goal (Some step) k.noted
       (refl, taken_by step taken from.state.goals is.first) reached
 
   -- nothing is kept: there are ranks still
-  node_by : k.keeps ≡ false → (goal : Equation) → IsNode parts goal from → (o : Option Step) →
-      IfSome o IsTakenAlone → IfSome (led most_moves from o k.noted after_here).node (IsNode parts goal)
+  node_by : k.keeps ≡ false → (goal : Equation) → IsNode kind parts goal from → (o : Option Step) →
+      IfSome o IsTakenAlone → IfSome (led most_moves from o k.noted after_here).node
+      (IsNode kind parts goal)
   node_by e goal node None taken = tt
   node_by e goal node (Some step) taken =
       let hypotheses =
@@ -184,7 +190,7 @@ module _ (parts : RuleParts) (from : Node) (k : KnownChoice)
       append-nil from.state.hypotheses in
       record {
         reached = reached_here goal node.reached (Some step) taken;
-        ranked = ap (ranked parts) hypotheses ∙ node.ranked;
+        ranked = ap (ranked kind parts) hypotheses ∙ node.ranked;
       }
 
   module _ (t : Trial) (same : t ≡ led most_moves from k.step k.noted after_here) where
@@ -202,36 +208,37 @@ module _ (parts : RuleParts) (from : Node) (k : KnownChoice)
 
     -- where nothing is kept
     module _ (unkept : k.keeps ≡ false) where
-      pub unkept_tried : IsTried from (tried_at parts from.state k) t
+      pub unkept_tried : IsTried from (tried_at kind parts from.state k) t
       unkept_tried =
           subst
-          (λ b. IsTried from (if_ranks parts b (lifted from.state (seen_known k).tried)) t)
+          (λ b. IsTried from (if_ranks kind parts b (lifted from.state (seen_known k).tried)) t)
           (sym unkept) plainly_tried
 
-      pub unkept_node : (goal : Equation) → IsNode parts goal from → IfSome t.node
-          (IsNode parts goal)
+      pub unkept_node : (goal : Equation) → IsNode kind parts goal from → IfSome t.node
+          (IsNode kind parts goal)
       unkept_node goal node =
-          subst (λ (t : Trial). IfSome t.node (IsNode parts goal)) (sym same)
+          subst (λ (t : Trial). IfSome t.node (IsNode kind parts goal)) (sym same)
           (node_by unkept goal node k.step is.right.taken)
 
     -- where the goal is kept
     module _ (kept : k.keeps ≡ true) where
       pub kept_some : (next : Node) → t.node ≡ Some next → (result : Result Trial NoMemory) →
-          IfOk result (λ x. x ≡ if_ranked (ranked parts next.state.hypotheses) next t.noted) →
-          IfOk result (IsTried from (tried_at parts from.state k))
+          IfOk result (λ x. x ≡ if_ranked (ranked kind parts next.state.hypotheses) next t.noted) →
+          IfOk result (IsTried from (tried_at kind parts from.state k))
       kept_some next leads result is_ranked =
           subst
           (λ b. IfOk result (IsTried from
-          (if_ranks parts b (lifted from.state (seen_known k).tried))))
+          (if_ranks kind parts b (lifted from.state (seen_known k).tried))))
           (sym kept)
-          (keeping_ranked_call from parts (lifted from.state (seen_known k).tried) t next
+          (keeping_ranked_call from kind parts (lifted from.state (seen_known k).tried) t next
           plainly_tried leads result is_ranked)
 
-      pub kept_none : t.node ≡ None → IsTried from (tried_at parts from.state k)
+      pub kept_none : t.node ≡ None → IsTried from (tried_at kind parts from.state k)
           (record { node = None; noted = t.noted })
       kept_none leads =
           subst
-          (λ b. IsTried from (if_ranks parts b (lifted from.state (seen_known k).tried))
+          (λ b. IsTried from (if_ranks kind parts b (lifted from.state (seen_known k).tried))
           (record { node = None; noted = t.noted }))
           (sym kept)
-          (keeping_none from parts (lifted from.state (seen_known k).tried) t plainly_tried leads)
+          (keeping_none from kind parts (lifted from.state
+          (seen_known k).tried) t plainly_tried leads)

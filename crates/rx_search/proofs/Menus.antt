@@ -3,6 +3,7 @@ use Rattle.std.proofs.Common.{◌≡◌, Bool, true, false, if◌then◌else◌,
 use Rattle.std.specs.Prelude.{◌==◌, slice_get}
 use Rattle.std.specs.List.{filter_map}
 use Rattle.rx_row.specs.declared.row.Row.{Row}
+use Rattle.rx_rank.specs.declared.kind.RankingKind.{RankingKind}
 use Rattle.rx_term.specs.declared.rule.Equation.{Equation}
 use Rattle.rx_term.specs.declared.rule_set.RuleParts.{RuleParts}
 use Rattle.rx_settle.specs.Settling.{rows_if}
@@ -32,33 +33,35 @@ pub first_open : (node : Node) (first : Equation) → open_goal node ≡ Some fi
     slice_get node.state.goals 0
 first_open node first e = first_by node first (node.left == 0) e
 
-module _ (parts : RuleParts) (node : Node) where
+module _ (kind : RankingKind) (parts : RuleParts) (node : Node) where
   -- the menu by the goals of the state
   abbrev by_goals : List Equation → Seen
   by_goals goals = record {
-    choices = filter_map (child (node_of node)) (chosen_first parts node.state goals);
-    note = rows_if (is_any_noted (chosen_first parts node.state goals)) goals;
+    choices = filter_map (child (node_of node)) (chosen_first kind parts node.state goals);
+    note = rows_if (is_any_noted (chosen_first kind parts node.state goals)) goals;
   }
 
   none_by : (b : Bool) (goals : List Equation) → (node.left == 0) ≡ b → node.state.goals ≡ goals
-      → (if b then None else slice_get goals 0) ≡ None → none ≡ menu parts (node_of node)
+      → (if b then None else slice_get goals 0) ≡ None → none ≡ menu kind parts (node_of node)
   none_by true goals is same over = ap (λ b. if b then none else by_goals node.state.goals) (sym is)
   none_by false [] is same over =
       ap by_goals (sym same) ∙ ap (λ b. if b then none else by_goals node.state.goals) (sym is)
   none_by false (goal ∷ goals) is same over = absurd cc
 
   -- there are no choices
-  pub menu_over : open_goal node ≡ None → none ≡ menu parts (node_of node)
+  pub menu_over : open_goal node ≡ None → none ≡ menu kind parts (node_of node)
   menu_over over = none_by (node.left == 0) node.state.goals refl refl over
 
   found_at : (first : Equation) (goals : List Equation) (found : Choices) (rows : Option (List Row))
       → slice_get goals 0 ≡ Some first
-      → AreChoices node (chosen_at parts node.state first) found → rows ≡ rows_if found.noted goals
+      → AreChoices node (chosen_at kind parts node.state first) found → rows ≡
+      rows_if found.noted goals
       → seen_menu node_of (record { choices = found.choices; note = rows }) ≡ by_goals goals
   found_at first [] found rows some are is = absurd cc
   found_at first (goal ∷ goals) found rows some are is =
       let same : first ≡ goal = cc in
-      let these = subst (λ goal. AreChoices node (chosen_at parts node.state goal) found) same are
+      let these = subst (λ goal. AreChoices node
+      (chosen_at kind parts node.state goal) found) same are
       in
       let noted = is ∙ ap (λ b. rows_if b (goal ∷ goals)) these.noted in
       λ i. record { choices = these.choices i; note = noted i }
@@ -66,10 +69,10 @@ module _ (parts : RuleParts) (node : Node) where
   found_by : (b : Bool) (first : Equation) (found : Choices) (rows : Option (List Row)) →
       (node.left == 0) ≡ b
       → (if b then None else slice_get node.state.goals 0) ≡ Some first
-      → AreChoices node (chosen_at parts node.state first) found → rows ≡
+      → AreChoices node (chosen_at kind parts node.state first) found → rows ≡
       rows_if found.noted node.state.goals
       → seen_menu node_of (record { choices = found.choices; note = rows }) ≡
-      menu parts (node_of node)
+      menu kind parts (node_of node)
   found_by true first found rows left some are is = absurd cc
   found_by false first found rows left some are is =
       found_at first node.state.goals found rows some are is ∙
@@ -78,9 +81,9 @@ module _ (parts : RuleParts) (node : Node) where
   -- what was found
   pub menu_found : (first : Equation) (found : Choices) (rows : Option (List Row)) →
       open_goal node ≡ Some first
-      → AreChoices node (chosen_at parts node.state first) found → rows ≡
+      → AreChoices node (chosen_at kind parts node.state first) found → rows ≡
       rows_if found.noted node.state.goals
       → seen_menu node_of (record { choices = found.choices; note = rows }) ≡
-      menu parts (node_of node)
+      menu kind parts (node_of node)
   menu_found first found rows some are is =
       found_by (node.left == 0) first found rows refl some are is

@@ -8,6 +8,7 @@ use Rattle.rx_inference.specs.States.{State}
 use Rattle.rx_inference.specs.declared.step.Step.{Step}
 use Rattle.rx_proofs.specs.Runs as runs
 use Rattle.rx_rank.specs.Ranking.{ranked}
+use Rattle.rx_rank.specs.declared.kind.RankingKind.{RankingKind}
 use Rattle.rx_settle.specs.Answers.{AreDeep, IsSettled, after_all}
 use Rattle.rx_moves.specs.Moves.{move_of}
 use Rattle.rx_settle.specs.Settling.{most_moves, settle}
@@ -45,10 +46,11 @@ module _ (parts : RuleParts) (node : Node) (new : State) (found : Found)
       }
 
   -- and it is a node of the search
-  pub settled_node : (goal : Equation) (steps : List Step) → steps ≡ node.steps ++ found.steps →
+  pub settled_node : (kind : RankingKind) (goal : Equation)
+      (steps : List Step) → steps ≡ node.steps ++ found.steps →
       new.hypotheses ≡ node.state.hypotheses
-      → IsNode parts goal node → IsNode parts goal (after steps)
-  settled_node goal steps same hypotheses old = record {
+      → IsNode kind parts goal node → IsNode kind parts goal (after steps)
+  settled_node kind goal steps same hypotheses old = record {
     reached = record {
       made = old.reached.made;
       fits = old.reached.fits;
@@ -60,5 +62,5 @@ module _ (parts : RuleParts) (node : Node) (new : State) (found : Found)
           subst AreDeep (sym same) (All-append IsDeep node.steps found.steps old.reached.deep
           is.deep);
     };
-    ranked = ap (ranked parts) hypotheses ∙ old.ranked;
+    ranked = ap (ranked kind parts) hypotheses ∙ old.ranked;
   }

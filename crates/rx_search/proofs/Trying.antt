@@ -26,6 +26,7 @@ use Rattle.rx_inference.specs.declared.formed_step.FormedStep.{FormedStep}
 use Rattle.rx_inference.specs.declared.step.Side.{Side}
 use Rattle.rx_inference.specs.declared.step.Step.{Step}
 use Rattle.rx_rank.specs.Ranking.{ranked}
+use Rattle.rx_rank.specs.declared.kind.RankingKind.{RankingKind}
 use Rattle.rx_proofs.specs.Runs as runs
 use Rattle.rx_settle.specs.Answers.{Takes}
 use Rattle.rx_moves.specs.Moves.{Absurd, Decompose, EqDelete, Equal, Expand, Generalise, Hyp, Move, Postulate, Results, Simplify, Split, move_of, step_of}
@@ -59,7 +60,10 @@ module _ (parts : RuleParts) (from : Node) (state : State) (tried : Tried Next) 
       → IsTried from tried (led most_moves from taken noted state)
   led_by None noted same takes =
       let (made, _) = takes in
-      record { node = ap (option_map (node_with most_moves (node_of from))) (sym made); noted = same }
+      record {
+        node = ap (option_map (node_with most_moves (node_of from))) (sym made);
+        noted = same;
+      }
   led_by (Some step) noted same takes =
       let (made, _) = takes in
       record {
@@ -89,9 +93,9 @@ module _ (parts : RuleParts) (from : Node) (state : State) (tried : Tried Next) 
 
 -- ---- where ranks are found
 
-module _ (from : Node) (parts : RuleParts) where
+module _ (from : Node) (kind : RankingKind) (parts : RuleParts) where
   abbrev next_ranked : Next → Tried Next
-  next_ranked next = where_shown (ranked parts next.state.hypotheses) next
+  next_ranked next = where_shown (ranked kind parts next.state.hypotheses) next
 
   ranked_by : (node : Node) (noted : Bool) (next : Next) (said : Said) → node_of node ≡
       node_with most_moves (node_of from) next
@@ -103,29 +107,30 @@ module _ (from : Node) (parts : RuleParts) where
   then_ranked : (node : Node) (noted : Bool) (made : Option Next) → Some (node_of node) ≡
       option_map (node_with most_moves (node_of from)) made
       → IsTried from (then_by made noted next_ranked)
-      (if_ranked (ranked parts node.state.hypotheses) node noted)
+      (if_ranked (ranked kind parts node.state.hypotheses) node noted)
   then_ranked node noted None same = absurd cc
   then_ranked node noted (Some next) same =
       let seen : node_of node ≡ node_with most_moves (node_of from) next = cc in
       let state : node.state ≡ next.state = ap (λ (n : nodes.Node). n.state) seen in
       subst (λ (s : State). IsTried from (noting noted
-      (where_shown (ranked parts s.hypotheses) next))
-      (if_ranked (ranked parts node.state.hypotheses) node noted))
-      state (ranked_by node noted next (ranked parts node.state.hypotheses) seen)
+      (where_shown (ranked kind parts s.hypotheses) next))
+      (if_ranked (ranked kind parts node.state.hypotheses) node noted))
+      state (ranked_by node noted next (ranked kind parts node.state.hypotheses) seen)
 
   -- the node that the expansion leads to, where ranks are found
   pub keeping_ranked : (tried : Tried Next) (found : Trial) (node : Node) →
       IsTried from tried found → found.node ≡ Some node
       → IsTried from (then_try tried next_ranked)
-      (if_ranked (ranked parts node.state.hypotheses) node found.noted)
+      (if_ranked (ranked kind parts node.state.hypotheses) node found.noted)
   keeping_ranked tried found node is leads =
       let same : Some (node_of node) ≡ option_map (node_with most_moves (node_of from)) tried.made =
       ap (option_map node_of) (sym leads) ∙ is.node in
       subst (λ noted. IsTried from (then_by tried.made noted next_ranked)
-      (if_ranked (ranked parts node.state.hypotheses) node found.noted))
+      (if_ranked (ranked kind parts node.state.hypotheses) node found.noted))
       is.noted (then_ranked node found.noted tried.made same)
 
-  none_by : (noted : Bool) (made : Option Next) → None ≡ option_map (node_with most_moves (node_of from)) made
+  none_by : (noted : Bool) (made : Option Next) → None ≡ option_map (node_with most_moves
+      (node_of from)) made
       → IsTried from (then_by made noted next_ranked) (record { node = None; noted = noted })
   none_by noted None same = record { node = refl; noted = refl }
   none_by noted (Some next) same = absurd cc
@@ -141,42 +146,47 @@ module _ (from : Node) (parts : RuleParts) where
       is.noted (none_by found.noted tried.made same)
 
 -- such a node is one of the search
-node_by : (parts : RuleParts) (goal : Equation) (node : Node) (noted : Bool) (said : Said) →
-    ranked parts node.state.hypotheses ≡ said
-    → IsReached parts goal node → IfSome (if_ranked said node noted).node (IsNode parts goal)
-node_by parts goal node noted Yes is reached = record { reached = reached; ranked = is }
-node_by parts goal node noted No is reached = tt
-node_by parts goal node noted Beyond is reached = tt
+node_by : (kind : RankingKind) (parts : RuleParts) (goal : Equation) (node : Node) (noted : Bool)
+    (said : Said) →
+    ranked kind parts node.state.hypotheses ≡ said
+    → IsReached parts goal node → IfSome (if_ranked said node noted).node (IsNode kind parts goal)
+node_by kind parts goal node noted Yes is reached = record { reached = reached; ranked = is }
+node_by kind parts goal node noted No is reached = tt
+node_by kind parts goal node noted Beyond is reached = tt
 
-pub node_ranked : (parts : RuleParts) (goal : Equation) (node : Node) (noted : Bool) →
+pub node_ranked : (kind : RankingKind) (parts : RuleParts) (goal : Equation) (node : Node)
+    (noted : Bool) →
     IsReached parts goal node
-    → IfSome (if_ranked (ranked parts node.state.hypotheses) node noted).node (IsNode parts goal)
-node_ranked parts goal node noted reached =
-    node_by parts goal node noted (ranked parts node.state.hypotheses) refl reached
+    → IfSome (if_ranked (ranked kind parts node.state.hypotheses) node noted).node
+    (IsNode kind parts goal)
+node_ranked kind parts goal node noted reached =
+    node_by kind parts goal node noted (ranked kind parts node.state.hypotheses) refl reached
 
 -- ---- of calls
 
-pub keeping_ranked_call : (from : Node) (parts : RuleParts) (tried : Tried Next) (found : Trial)
+pub keeping_ranked_call : (from : Node) (kind : RankingKind) (parts : RuleParts)
+    (tried : Tried Next) (found : Trial)
     (node : Node) → IsTried from tried found
     → found.node ≡ Some node → (result : Result Trial NoMemory)
-    → IfOk result (λ t. t ≡ if_ranked (ranked parts node.state.hypotheses) node found.noted)
+    → IfOk result (λ t. t ≡ if_ranked (ranked kind parts node.state.hypotheses) node found.noted)
     → IfOk result (IsTried from (then_try tried
-    (λ (next : Next). where_shown (ranked parts next.state.hypotheses) next)))
-keeping_ranked_call from parts tried found node is leads (Ok t) same =
+    (λ (next : Next). where_shown (ranked kind parts next.state.hypotheses) next)))
+keeping_ranked_call from kind parts tried found node is leads (Ok t) same =
     subst (IsTried from (then_try tried (λ (next : Next).
-    where_shown (ranked parts next.state.hypotheses) next))) (sym same)
-    (keeping_ranked from parts tried found node is leads)
-keeping_ranked_call from parts tried found node is leads (Err e) same = tt
+    where_shown (ranked kind parts next.state.hypotheses) next))) (sym same)
+    (keeping_ranked from kind parts tried found node is leads)
+keeping_ranked_call from kind parts tried found node is leads (Err e) same = tt
 
-pub node_ranked_call : (parts : RuleParts) (goal : Equation) (node : Node) (noted : Bool) →
+pub node_ranked_call : (kind : RankingKind) (parts : RuleParts) (goal : Equation) (node : Node)
+    (noted : Bool) →
     IsReached parts goal node
     → (result : Result Trial NoMemory) → IfOk result
-    (λ t. t ≡ if_ranked (ranked parts node.state.hypotheses) node noted)
-    → IfOk result (λ t. IfSome t.node (IsNode parts goal))
-node_ranked_call parts goal node noted reached (Ok t) same =
-    subst (λ (t : Trial). IfSome t.node (IsNode parts goal)) (sym same)
-    (node_ranked parts goal node noted reached)
-node_ranked_call parts goal node noted reached (Err e) same = tt
+    (λ t. t ≡ if_ranked (ranked kind parts node.state.hypotheses) node noted)
+    → IfOk result (λ t. IfSome t.node (IsNode kind parts goal))
+node_ranked_call kind parts goal node noted reached (Ok t) same =
+    subst (λ (t : Trial). IfSome t.node (IsNode kind parts goal)) (sym same)
+    (node_ranked kind parts goal node noted reached)
+node_ranked_call kind parts goal node noted reached (Err e) same = tt
 
 -- what holds of the node, if there is one, holds of it
 pub led_to : (found : Option Node) (node : Node) (P : Node → Type 0) → found ≡ Some node →

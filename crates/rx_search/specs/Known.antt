@@ -4,6 +4,7 @@
 use Rattle.std.specs.Prelude.{◌≡◌, true, false, All, IfSome, Option, Some, List, [], map, slice_get}
 use Rattle.std.specs.Option.{option_map}
 use Rattle.rx_solve.specs.Attempts.{Tried}
+use Rattle.rx_rank.specs.declared.kind.RankingKind.{RankingKind}
 use Rattle.rx_term.specs.declared.rule.Equation.{Equation}
 use Rattle.rx_term.specs.declared.rule_set.RuleParts.{RuleParts}
 use Rattle.rx_inference.specs.States.{State}
@@ -43,11 +44,11 @@ abbrev pub seen_known : KnownChoice → Attempted
 seen_known k = attempted k.number k.keeps (record { made = next_known k; noted = k.noted })
 
 -- what comes of it at a state, and the choice that it is there
-abbrev pub tried_at : RuleParts → State → KnownChoice → Tried Next
-tried_at parts state k = if_ranks parts k.keeps (lifted state (seen_known k).tried)
+abbrev pub tried_at : RankingKind → RuleParts → State → KnownChoice → Tried Next
+tried_at kind parts state k = if_ranks kind parts k.keeps (lifted state (seen_known k).tried)
 
-abbrev pub chosen_by : RuleParts → State → KnownChoice → Chosen
-chosen_by parts state k = choice k.number (tried_at parts state k)
+abbrev pub chosen_by : RankingKind → RuleParts → State → KnownChoice → Chosen
+chosen_by kind parts state k = choice k.number (tried_at kind parts state k)
 
 -- the step leads from the state of the goal alone to the one after it; and where no ranks are to be
 -- found, no hypothesis is kept

@@ -9,6 +9,7 @@ use Rattle.rx_term.specs.declared.rule_set.RuleParts.{RuleParts}
 use Rattle.rx_inference.specs.States.{State}
 use Rattle.rx_lemma.specs.Generalising.{generalisations}
 use Rattle.rx_rank.specs.Ranking.{ranked}
+use Rattle.rx_rank.specs.declared.kind.RankingKind.{RankingKind}
 use Rattle.rx_moves.specs.Moves.{move_of}
 use Rattle.rx_moves.specs.Trying.{Next, attempt, then_try}
 use Rattle.rx_search.specs.Candidates.{candidates_by}
@@ -54,20 +55,21 @@ abbrev pub choice : ℕ → Tried Next → Chosen
 choice number tried = record { number = number; tried = tried }
 
 -- what comes of it once ranks are found with what it keeps
-abbrev pub if_ranks : RuleParts → Bool → Tried Next → Tried Next
-if_ranks parts keeps tried =
+abbrev pub if_ranks : RankingKind → RuleParts → Bool → Tried Next → Tried Next
+if_ranks kind parts keeps tried =
     if keeps
-    then then_try tried (λ (next : Next). where_shown (ranked parts next.state.hypotheses) next)
+    then then_try tried
+    (λ (next : Next). where_shown (ranked kind parts next.state.hypotheses) next)
     else tried
 
 -- the choice that it is then
-abbrev pub chosen_of : RuleParts → Attempted → Chosen
-chosen_of parts a = choice a.number (if_ranks parts a.keeps a.tried)
+abbrev pub chosen_of : RankingKind → RuleParts → Attempted → Chosen
+chosen_of kind parts a = choice a.number (if_ranks kind parts a.keeps a.tried)
 
-module _ (parts : RuleParts) (state : State) where
+module _ (kind : RankingKind) (parts : RuleParts) (state : State) where
   -- all choices in order
   abbrev pub chosen_at : Equation → List Chosen
-  chosen_at goal = map (chosen_of parts) (attempted_at parts state goal)
+  chosen_at goal = map (chosen_of kind parts) (attempted_at parts state goal)
 
   -- where no goal is left there are none
   abbrev pub chosen_first : List Equation → List Chosen

@@ -11,6 +11,7 @@ use Rattle.rx_term.specs.declared.rule.Rule.{Rule}
 use Rattle.rx_inference.specs.declared.step.Step.{Step}
 use Rattle.rx_proofs.specs.Runs as runs
 use Rattle.rx_rank.specs.Ranking.{ranked}
+use Rattle.rx_rank.specs.declared.kind.RankingKind.{RankingKind}
 use Rattle.rx_settle.specs.Reached.{IsReachedBy}
 use Rattle.rx_moves.specs.Moves.{Decompose, Expand, Generalise, Move}
 use Rattle.rx_settle.specs.Settling.{most_moves}
@@ -24,20 +25,20 @@ use Rattle.rx_search.specs.declared.node_choices.Trial.{Trial}
 use Rattle.rx_search.specs.declared.node_choices.Choices.{Choices}
 use Rattle.rx_deepening.specs.Views.{seen_choice}
 
-module _ (parts : RuleParts) (goal : Equation) where
-  -- the steps lead from the goal to the state
-  abbrev pub IsReached : Node → Type 0
-  IsReached node = IsReachedBy parts goal node.steps node.state
+-- the steps lead from the goal to the state
+abbrev pub IsReached : RuleParts → Equation → Node → Type 0
+IsReached parts goal node = IsReachedBy parts goal node.steps node.state
 
-  -- and there are ranks with the hypotheses that were kept
+module _ (kind : RankingKind) (parts : RuleParts) (goal : Equation) where
+  -- so of the node, and there are ranks with the hypotheses that were kept
   pub record IsNode (node : Node) : Type 0 where
-    pub reached : IsReached node
-    pub ranked : ranked parts node.state.hypotheses ≡ Yes
+    pub reached : IsReached parts goal node
+    pub ranked : ranked kind parts node.state.hypotheses ≡ Yes
 
   -- steps lead from the goal to no goal, and there are ranks with the hypotheses that were kept
   pub record IsProved (steps : List Step) (hypotheses : List Rule) : Type 0 where
     pub reached : IsReachedBy parts goal steps (runs.finished hypotheses)
-    pub ranked : ranked parts hypotheses ≡ Yes
+    pub ranked : ranked kind parts hypotheses ≡ Yes
 
 -- ---- choices
 
@@ -69,8 +70,9 @@ if_ranked Beyond node noted = record { node = None; noted = true }
 
 -- ---- what is searched
 
--- the rules and the goal, and which solver is asked
+-- the rules, how they are ranked, and the goal; and which solver is asked
 pub record Problem : Type 0 where
+  pub kind : RankingKind
   pub parts : RuleParts
   pub goal : Equation
   pub solver : GName

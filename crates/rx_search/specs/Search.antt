@@ -4,6 +4,7 @@ use Rattle.std.specs.Prelude.{ℕ, ◌==◌, if◌then◌else◌, Bool, true, fa
 use Rattle.std.specs.List.{filter_map}
 use Rattle.std.specs.Option.{option_map}
 use Rattle.rx_row.specs.declared.row.Row.{Row}
+use Rattle.rx_rank.specs.declared.kind.RankingKind.{RankingKind}
 use Rattle.rx_term.specs.declared.rule.Equation.{Equation}
 use Rattle.rx_term.specs.declared.rule_set.RuleParts.{RuleParts}
 use Rattle.rx_moves.specs.Moves.{Move}
@@ -45,16 +46,15 @@ menu_of node cs =
           rows_if (is_any_noted cs) node.state.goals;
     }
 
-module _ (parts : RuleParts) where
-  -- the node is settled by 200 moves at most
-  abbrev pub settled : Node → Settled Node (List Row)
-  settled node = settled_after node (settle parts most_moves node.state)
+-- the node is settled by 200 moves at most
+abbrev pub settled : RuleParts → Node → Settled Node (List Row)
+settled parts node = settled_after node (settle parts most_moves node.state)
 
-  -- its choices; none where settling took all moves
-  abbrev pub menu : Node → Menu Node (List Row)
-  menu node =
-      if node.left == 0 then record { choices = []; note = None } else
-      menu_of node (chosen parts node.state)
+-- its choices; none where settling took all moves
+abbrev pub menu : RankingKind → RuleParts → Node → Menu Node (List Row)
+menu kind parts node =
+    if node.left == 0 then record { choices = []; note = None } else
+    menu_of node (chosen kind parts node.state)
 
 -- ---- the search
 
@@ -80,10 +80,10 @@ of_outcome outcomes.Through = NoPlan
 abbrev pub start : Equation → Node
 start goal = nodes.start goal most_moves
 
--- what the visits come to
-abbrev pub visited : RuleParts → Equation → ℕ → ℕ → Searched
-visited parts goal depth budget =
-    of_outcome (outcome budget (all_visits (settled parts) (menu parts) depth (start goal)))
+-- what the visits come to, with rankings of this kind
+abbrev pub visited : RankingKind → RuleParts → Equation → ℕ → ℕ → Searched
+visited kind parts goal depth budget =
+    of_outcome (outcome budget (all_visits (settled parts) (menu kind parts) depth (start goal)))
 
 -- where no set has ranks, whether the limits were passed decides
 abbrev pub unranked : Bool → Equation → Searched
@@ -93,7 +93,8 @@ unranked true goal = LargeRanks goal.rows
 -- where a set has ranks, the visits over it decide, and what was noted on the way to them counts
 -- for nothing
 abbrev pub searched_from : Beginning → RuleParts → Equation → ℕ → ℕ → Searched
-searched_from (Over rows) parts goal depth budget = visited (set_of parts rows) goal depth budget
+searched_from (Over kind rows) parts goal depth budget =
+    visited kind (set_of parts rows) goal depth budget
 searched_from (Unranked noted) parts goal depth budget = unranked noted goal
 
 abbrev pub searched : RuleParts → Equation → ℕ → ℕ → Searched

@@ -13,13 +13,13 @@ use crate::dropping::dropped;
 use crate::known::{ChoiceMemo, known_choices};
 use crate::node::Node;
 use crate::node_choices::{Choices, KnownChoice, Trial};
+use crate::search_space::SearchSpace;
 use rx_cert::Cert;
 use rx_fm::FmEnd;
 use rx_has_ranks::{RankMemo, has_ranks_with};
-use rx_pairs::Listing;
 use rx_plain::{NoMemory, Shared};
 use rx_row::Constraint;
-use rx_term::{Equation, RuleSet};
+use rx_term::Equation;
 use std::alloc::Global;
 
 /// How many steps settle a state at most.
@@ -35,22 +35,30 @@ fn without_node(noted: bool) -> Trial
 /// What comes of a choice that leads to the node, where ranks are found with its hypotheses.
 fn where_ranked<S: FnMut(&Constraint) -> Result<Option<Cert>, FmEnd>>(
     alloc: Global,
-    rules: &RuleSet,
+    space: &SearchSpace<'_>,
     node: Node,
     noted: bool,
-    listed: &Listing,
     memo: &mut RankMemo,
     solve: &mut S,
 ) -> Result<Trial, NoMemory>
-    requires listed { listed.now ≡ listing rules.now rules.now.rules }
+    requires listed { space.now.listed.now ≡
+        listing space.now.rules.now space.now.rules.now.rules }
     requires solver { IsSolver S.FnMut solve.old }
     requires roots { All HasRoot node.state.hypotheses }
-    requires fits { All (SidesFit rules.now) node.state.hypotheses }
+    requires fits { All (SidesFit space.now.rules.now) node.state.hypotheses }
     ensures solver { IsSolver S.FnMut solve.new }
-    ensures ranked { IfOk result (λ t. t ≡ if_ranked (ranked rules.now node.state.hypotheses) node
-        noted) }
+    ensures ranked { IfOk result (λ t. t ≡ if_ranked
+        (ranked space.now.kind space.now.rules.now node.state.hypotheses) node noted) }
 {
-    match has_ranks_with(alloc, rules, listed, node.state.hypotheses(), memo, solve) {
+    match has_ranks_with(
+        alloc,
+        space.kind,
+        space.rules,
+        space.listed,
+        node.state.hypotheses(),
+        memo,
+        solve,
+    ) {
         Ok(true) => Ok(Trial {
             node: Some(node),
             noted,
@@ -65,21 +73,22 @@ fn where_ranked<S: FnMut(&Constraint) -> Result<Option<Cert>, FmEnd>>(
 /// as a hypothesis, only where ranks are found with it.
 fn try_known<S: FnMut(&Constraint) -> Result<Option<Cert>, FmEnd>>(
     alloc: Global,
-    rules: &RuleSet,
+    space: &SearchSpace<'_>,
     node: &Node,
     known: &KnownChoice,
-    listed: &Listing,
     memo: &mut RankMemo,
     solve: &mut S,
 ) -> Result<Trial, NoMemory>
-    requires reached { (goal : Equation) × IsReached rules.now goal node.now }
-    requires right { IsRightAt rules.now node.now.state known.now }
-    requires listed { listed.now ≡ listing rules.now rules.now.rules }
+    requires reached { (goal : Equation) × IsReached space.now.rules.now goal node.now }
+    requires right { IsRightAt space.now.rules.now node.now.state known.now }
+    requires listed { space.now.listed.now ≡
+        listing space.now.rules.now space.now.rules.now.rules }
     requires solver { IsSolver S.FnMut solve.old }
     ensures solver { IsSolver S.FnMut solve.new }
-    ensures tried { IfOk result (IsTried node.now (tried_at rules.now node.now.state known.now)) }
-    ensures nodes { (goal : Equation) → IsNode rules.now goal node.now →
-        IfOk result (λ t. IfSome t.node (IsNode rules.now goal)) }
+    ensures tried { IfOk result (IsTried node.now
+        (tried_at space.now.kind space.now.rules.now node.now.state known.now)) }
+    ensures nodes { (goal : Equation) → IsNode space.now.kind space.now.rules.now goal node.now →
+        IfOk result (λ t. IfSome t.node (IsNode space.now.kind space.now.rules.now goal)) }
 {
     let trial = known.lead(alloc, node, MOST_STEPS)?;
     if !known.keeps {
@@ -87,7 +96,7 @@ fn try_known<S: FnMut(&Constraint) -> Result<Option<Cert>, FmEnd>>(
     }
     let Trial { node: found, noted } = trial;
     match found {
-        Some(next) => where_ranked(alloc, rules, next, noted, listed, memo, solve),
+        Some(next) => where_ranked(alloc, space, next, noted, memo, solve),
         None => Ok(Trial { node: None, noted }),
     }
 }
@@ -95,53 +104,56 @@ fn try_known<S: FnMut(&Constraint) -> Result<Option<Cert>, FmEnd>>(
 /// One more of the choices that are known.
 fn add_known<S: FnMut(&Constraint) -> Result<Option<Cert>, FmEnd>>(
     alloc: Global,
-    rules: &RuleSet,
+    space: &SearchSpace<'_>,
     node: &Node,
     known: &KnownChoice,
     found: &mut Choices,
-    listed: &Listing,
     memo: &mut RankMemo,
     solve: &mut S,
 ) -> Result<(), NoMemory>
-    requires reached { (goal : Equation) × IsReached rules.now goal node.now }
-    requires right { IsRightAt rules.now node.now.state known.now }
-    requires listed { listed.now ≡ listing rules.now rules.now.rules }
+    requires reached { (goal : Equation) × IsReached space.now.rules.now goal node.now }
+    requires right { IsRightAt space.now.rules.now node.now.state known.now }
+    requires listed { space.now.listed.now ≡
+        listing space.now.rules.now space.now.rules.now.rules }
     requires solver { IsSolver S.FnMut solve.old }
     ensures solver { IsSolver S.FnMut solve.new }
     ensures grows { (cs : List Chosen) → AreChoices node.now cs found.old →
         OnOk result (AreChoices node.now
-        (cs ++ chosen_by rules.now node.now.state known.now ∷ []) found.new) }
-    ensures nodes { (goal : Equation) → IsNode rules.now goal node.now →
-        All (λ c. IsNode rules.now goal c.node) found.old.choices →
-        OnOk result (All (λ c. IsNode rules.now goal c.node) found.new.choices) }
+        (cs ++ chosen_by space.now.kind space.now.rules.now node.now.state known.now ∷ [])
+        found.new) }
+    ensures nodes { (goal : Equation) → IsNode space.now.kind space.now.rules.now goal node.now →
+        All (λ c. IsNode space.now.kind space.now.rules.now goal c.node) found.old.choices →
+        OnOk result (All (λ c. IsNode space.now.kind space.now.rules.now goal c.node)
+        found.new.choices) }
 {
-    let trial = try_known(alloc, rules, node, known, listed, memo, solve)?;
+    let trial = try_known(alloc, space, node, known, memo, solve)?;
     found.add(known.number, trial)
 }
 
 /// The choices at a node, as they are known of its first goal.
 fn add_all<S: FnMut(&Constraint) -> Result<Option<Cert>, FmEnd>>(
     alloc: Global,
-    rules: &RuleSet,
+    space: &SearchSpace<'_>,
     node: &Node,
     known: &[KnownChoice],
-    listed: &Listing,
     memo: &mut RankMemo,
     solve: &mut S,
 ) -> Result<Choices, NoMemory>
-    requires reached { (goal : Equation) × IsReached rules.now goal node.now }
-    requires right { All (IsRightAt rules.now node.now.state) known.now }
-    requires listed { listed.now ≡ listing rules.now rules.now.rules }
+    requires reached { (goal : Equation) × IsReached space.now.rules.now goal node.now }
+    requires right { All (IsRightAt space.now.rules.now node.now.state) known.now }
+    requires listed { space.now.listed.now ≡
+        listing space.now.rules.now space.now.rules.now.rules }
     requires solver { IsSolver S.FnMut solve.old }
     ensures solver { IsSolver S.FnMut solve.new }
     ensures choices { IfOk result (AreChoices node.now
-        (map (chosen_by rules.now node.now.state) known.now)) }
-    ensures nodes { (goal : Equation) → IsNode rules.now goal node.now →
-        IfOk result (λ f. All (λ c. IsNode rules.now goal c.node) f.choices) }
+        (map (chosen_by space.now.kind space.now.rules.now node.now.state) known.now)) }
+    ensures nodes { (goal : Equation) → IsNode space.now.kind space.now.rules.now goal node.now →
+        IfOk result (λ f. All (λ c. IsNode space.now.kind space.now.rules.now goal c.node)
+        f.choices) }
 {
     let mut found = Choices::new(alloc);
     for one in known {
-        add_known(alloc, rules, node, one, &mut found, listed, memo, solve)?;
+        add_known(alloc, space, node, one, &mut found, memo, solve)?;
     }
     Ok(found)
 }
@@ -150,28 +162,29 @@ fn add_all<S: FnMut(&Constraint) -> Result<Option<Cert>, FmEnd>>(
 /// keeps the goal, and then that doesn't; Decompose; and the lemmas of the goal.
 pub(crate) fn find_choices<S: FnMut(&Constraint) -> Result<Option<Cert>, FmEnd>>(
     alloc: Global,
-    rules: &RuleSet,
+    space: &SearchSpace<'_>,
     node: &Node,
     first: Shared<Equation>,
-    listed: &Listing,
     memo: &mut RankMemo,
     known: &mut ChoiceMemo,
     solve: &mut S,
 ) -> Result<Choices, NoMemory>
-    requires reached { (goal : Equation) × IsReached rules.now goal node.now }
+    requires reached { (goal : Equation) × IsReached space.now.rules.now goal node.now }
     requires first { Some first ≡ slice_get node.now.state.goals 0 }
-    requires listed { listed.now ≡ listing rules.now rules.now.rules }
-    requires known { AreRight rules.now known.old }
+    requires listed { space.now.listed.now ≡
+        listing space.now.rules.now space.now.rules.now.rules }
+    requires known { AreRight space.now.rules.now known.old }
     requires solver { IsSolver S.FnMut solve.old }
-    ensures known { AreRight rules.now known.new }
+    ensures known { AreRight space.now.rules.now known.new }
     ensures solver { IsSolver S.FnMut solve.new }
     ensures choices { IfOk result (AreChoices node.now
-        (chosen_at rules.now node.now.state first)) }
-    ensures nodes { (goal : Equation) → IsNode rules.now goal node.now →
-        IfOk result (λ f. All (λ c. IsNode rules.now goal c.node) f.choices) }
+        (chosen_at space.now.kind space.now.rules.now node.now.state first)) }
+    ensures nodes { (goal : Equation) → IsNode space.now.kind space.now.rules.now goal node.now →
+        IfOk result (λ f. All (λ c. IsNode space.now.kind space.now.rules.now goal c.node)
+        f.choices) }
 {
-    let choices = known_choices(alloc, rules, known, first, solve)?;
+    let choices = known_choices(alloc, space.rules, known, first, solve)?;
     let all = choices.get().as_slice();
-    let found = add_all(alloc, rules, node, all, listed, memo, solve);
+    let found = add_all(alloc, space, node, all, memo, solve);
     dropped(choices, found)
 }

@@ -19,6 +19,7 @@ mod node_choices;
 mod plans;
 mod search;
 mod search_end;
+mod search_space;
 
 pub use beginning::{Beginning, Inside, begin, rule_pairs};
 pub use candidates::{Candidate, Candidates, find_candidates};
@@ -28,3 +29,4 @@ pub use rx_fm::FmEnd;
 pub use rx_plain::NoMemory;
 pub use search::{MOST_KEPT, Search, log_inside, log_of, search_over, search_with, unranked_end};
 pub use search_end::SearchEnd;
+pub use search_space::SearchSpace;

@@ -13,15 +13,14 @@ ghost use Rattle.rx_deepening.specs.Views.{seen_menu};
 use crate::choices::find_choices;
 use crate::known::ChoiceMemo;
 use crate::node::{Node, copied_rows};
+use crate::search_space::SearchSpace;
 use rx_cert::Cert;
 use rx_deepening::Menu;
 use rx_fm::FmEnd;
 use rx_has_ranks::RankMemo;
-use rx_pairs::Listing;
 use rx_plain::{Items, NoMemory};
 use rx_row::{Constraint, Row};
 use rx_steps::State;
-use rx_term::RuleSet;
 use std::alloc::Global;
 
 /// The rows of the first goal, where something was noted.
@@ -37,22 +36,24 @@ fn noted_rows(alloc: Global, noted: bool, state: &State) -> Result<Option<Items<
 /// The choices at a settled node; there are none where settling took all steps, or no goal is left.
 pub(crate) fn find_menu<S: FnMut(&Constraint) -> Result<Option<Cert>, FmEnd>>(
     alloc: Global,
-    rules: &RuleSet,
+    space: &SearchSpace<'_>,
     node: &Node,
-    listed: &Listing,
     memo: &mut RankMemo,
     known: &mut ChoiceMemo,
     solve: &mut S,
 ) -> Result<Menu<Node, Items<Row>>, NoMemory>
-    requires reached { (goal : Equation) × IsReached rules.now goal node.now }
-    requires listed { listed.now ≡ listing rules.now rules.now.rules }
-    requires known { AreRight rules.now known.old }
+    requires reached { (goal : Equation) × IsReached space.now.rules.now goal node.now }
+    requires listed { space.now.listed.now ≡
+        listing space.now.rules.now space.now.rules.now.rules }
+    requires known { AreRight space.now.rules.now known.old }
     requires solver { IsSolver S.FnMut solve.old }
-    ensures known { AreRight rules.now known.new }
+    ensures known { AreRight space.now.rules.now known.new }
     ensures solver { IsSolver S.FnMut solve.new }
-    ensures menu { IfOk result (λ m. seen_menu node_of m ≡ menu rules.now (node_of node.now)) }
-    ensures nodes { (goal : Equation) → IsNode rules.now goal node.now →
-        IfOk result (λ m. All (λ c. IsNode rules.now goal c.node) m.choices) }
+    ensures menu { IfOk result (λ m. seen_menu node_of m ≡
+        menu space.now.kind space.now.rules.now (node_of node.now)) }
+    ensures nodes { (goal : Equation) → IsNode space.now.kind space.now.rules.now goal node.now →
+        IfOk result (λ m. All (λ c. IsNode space.now.kind space.now.rules.now goal c.node)
+        m.choices) }
 {
     let Some(first) = node.open_goal()? else {
         return Ok(Menu {
@@ -60,7 +61,7 @@ pub(crate) fn find_menu<S: FnMut(&Constraint) -> Result<Option<Cert>, FmEnd>>(
             note: None,
         });
     };
-    let found = find_choices(alloc, rules, node, first, listed, memo, known, solve)?;
+    let found = find_choices(alloc, space, node, first, memo, known, solve)?;
     let note = noted_rows(alloc, found.noted, &node.state)?;
     Ok(Menu {
         choices: found.choices,

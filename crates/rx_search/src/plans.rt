@@ -4,6 +4,7 @@ ghost use Rattle.rx_search.specs.Calls.{node_of};
 ghost use Rattle.rx_search.specs.NodeNodes.{is_closed};
 ghost use Rattle.rx_search.specs.Nodes.{IsNode};
 ghost use Rattle.rx_search.specs.Search.{settled};
+ghost use Rattle.rx_rank.specs.declared.kind.RankingKind.{RankingKind};
 ghost use Rattle.rx_settle.specs.Known.{AreKnown};
 ghost use Rattle.rx_solve.specs.Answers.{IsSolver};
 ghost use Rattle.rx_term.specs.declared.rule.Equation.{Equation};
@@ -14,12 +15,12 @@ use crate::dropping::dropped;
 use crate::known::ChoiceMemo;
 use crate::menu::find_menu;
 use crate::node::{Node, is_closed};
+use crate::search_space::SearchSpace;
 use rx_cert::Cert;
 use rx_deepening::{Menu, Settled, Tree};
 use rx_fm::FmEnd;
 use rx_has_ranks::RankMemo;
 use rx_moves::LoopPoints;
-use rx_pairs::Listing;
 use rx_plain::{Items, NoMemory};
 use rx_row::{Constraint, Row};
 use rx_settle::{SettleMemo, append_steps, settle};
@@ -63,8 +64,8 @@ fn settle_node<S: FnMut(&Constraint) -> Result<Option<Cert>, FmEnd>>(
     ensures solver { IsSolver S.FnMut solve.new }
     ensures settled { IfOk result (λ s. seen_settled node_of s ≡
         settled rules.now (node_of node)) }
-    ensures node { (goal : Equation) → IsNode rules.now goal node →
-        IfOk result (λ s. IsNode rules.now goal s.node) }
+    ensures node { (kind : RankingKind) → (goal : Equation) → IsNode kind rules.now goal node →
+        IfOk result (λ s. IsNode kind rules.now goal s.node) }
 {
     match settle(alloc, rules, points, memo, &mut node.state, solve) {
         Ok(found) => settled_by(alloc, node, found),
@@ -77,14 +78,12 @@ fn settle_node<S: FnMut(&Constraint) -> Result<Option<Cert>, FmEnd>>(
 pub(crate) struct Plans<'a, S> {
     /// The allocator.
     pub(crate) alloc: Global,
-    /// The rules.
-    pub(crate) rules: &'a RuleSet,
+    /// The rules, and how they are ranked.
+    pub(crate) space: &'a SearchSpace<'a>,
     /// The goal.
     pub(crate) goal: &'a Equation,
     /// The loop points of the rules.
     pub(crate) points: &'a LoopPoints,
-    /// The pairs of the rules inside their domains.
-    pub(crate) listed: &'a Listing,
     /// What settling knows of goals.
     pub(crate) settle_memo: &'a mut SettleMemo,
     /// What is known of the choices at goals.
@@ -115,30 +114,33 @@ impl<'a, S: FnMut(&Constraint) -> Result<Option<Cert>, FmEnd>> Tree for Plans<'a
     ghost World = { Problem };
 
     ghost world = { λ p. record {
-      parts = p.rules.now;
+      kind = p.space.now.kind;
+      parts = p.space.now.rules.now;
       goal = p.goal.now;
       solver =
           p.solve.ghost_name;
     } };
 
-    ghost ready = { λ p. IsSolver S.FnMut p.solve.now × AreLoopPoints p.rules.now p.points.now ×
-        (p.listed.now ≡ listing p.rules.now p.rules.now.rules) × AreKnown p.rules.now p.settle_memo.now ×
-        AreRight p.rules.now p.choice_memo.now };
+    ghost ready = { λ p. IsSolver S.FnMut p.solve.now × AreLoopPoints p.space.now.rules.now
+        p.points.now ×
+        (p.space.now.listed.now ≡ listing p.space.now.rules.now p.space.now.rules.now.rules) ×
+        AreKnown p.space.now.rules.now p.settle_memo.now ×
+        AreRight p.space.now.rules.now p.choice_memo.now };
 
     ghost View = { nodes.Node };
 
     ghost view = { node_of };
 
-    ghost valid = { λ w n. IsNode w.parts w.goal n };
+    ghost valid = { λ w n. IsNode w.kind w.parts w.goal n };
 
     ghost settled = { λ w v. search.settled w.parts v };
 
-    ghost menu = { λ w v. search.menu w.parts v };
+    ghost menu = { λ w v. search.menu w.kind w.parts v };
 
     fn settle(&mut self, node: Node) -> Result<Settled<Node, Items<Row>>, NoMemory> {
         settle_node(
             self.alloc,
-            self.rules,
+            self.space.rules,
             self.points,
             self.settle_memo,
             node,
@@ -149,9 +151,8 @@ impl<'a, S: FnMut(&Constraint) -> Result<Option<Cert>, FmEnd>> Tree for Plans<'a
     fn choices(&mut self, node: &Node) -> Result<Menu<Node, Items<Row>>, NoMemory> {
         find_menu(
             self.alloc,
-            self.rules,
+            self.space,
             node,
-            self.listed,
             self.rank_memo,
             self.choice_memo,
             self.solve,

@@ -8,12 +8,12 @@ ghost use Rattle.rx_proofs.specs.Goals.{IsFitting};
 ghost use Rattle.rx_domain.specs.Setting.{with_domains};
 ghost use Rattle.rx_log.specs.Acceptance.{Accepted, IsAccepted, verdict_over};
 ghost use Rattle.rx_log.specs.Depth.{are_shallow_keeps, is_shallow_log};
-ghost use Rattle.rx_search.specs.Beginning.{Over, beginning};
-ghost use Rattle.rx_search.specs.Begun.{AreFound, IsInside, IsReady, rows_of};
+ghost use Rattle.rx_search.specs.Begun.{AreFound, BeginsOver, IsInside, IsReady, rows_of};
 ghost use Rattle.rx_search.specs.Calls.{node_of};
 ghost use Rattle.rx_pairs.specs.Inside.{listing};
 ghost use Rattle.rx_pairs.specs.Pairs.{HasRoot, SidesFit};
 ghost use Rattle.rx_rank.specs.Ranking.{ranked};
+ghost use Rattle.rx_rank.specs.declared.kind.RankingKind.{RankingKind};
 ghost use Rattle.rx_find_ranks.specs.Found.{HasColumns, LowersAll};
 ghost use Rattle.rx_search.specs.Ends.{IsEnd};
 ghost use Rattle.rx_search.specs.Nodes.{IsNode, IsProved};
@@ -32,6 +32,7 @@ use crate::dropping::dropped;
 use crate::node::{Node, copied_rows};
 use crate::plans::Plans;
 use crate::search_end::SearchEnd;
+use crate::search_space::SearchSpace;
 use rx_cert::Cert;
 use rx_cover::CoverTree;
 use rx_deepening::{Note, Outcome};
@@ -46,7 +47,7 @@ use rx_memo::GoalMemo;
 use rx_moves::LoopPoints;
 use rx_pairs::Listing;
 use rx_plain::{Items, NoMemory, Shared};
-use rx_rank::PairMemo;
+use rx_rank::{PairMemo, RankingKind};
 use rx_row::{Constraint, Row};
 use rx_settle::{SettleMemo, own_steps};
 use rx_term::{Equation, Rule, RuleSet};
@@ -60,35 +61,36 @@ pub const MOST_KEPT: usize = 32_768;
 /// What the visits of the plans for the goal come to.
 fn visit_plans<S: FnMut(&Constraint) -> Result<Option<Cert>, FmEnd>>(
     alloc: Global,
-    rules: &RuleSet,
+    space: &SearchSpace<'_>,
     goal: &Equation,
     depth: u32,
     budget: u32,
     most_kept: usize,
-    listed: &Listing,
     rank_memo: &mut RankMemo,
     solve: &mut S,
 ) -> Result<Outcome<Node, Items<Row>>, NoMemory>
-    requires listed { listed.now ≡ listing rules.now rules.now.rules }
-    requires fits { IsFitting rules.now goal.now }
-    requires ranked { ranked rules.now [] ≡ Yes }
+    requires listed { space.now.listed.now ≡
+        listing space.now.rules.now space.now.rules.now.rules }
+    requires fits { IsFitting space.now.rules.now goal.now }
+    requires ranked { ranked space.now.kind space.now.rules.now [] ≡ Yes }
     requires solver { IsSolver S.FnMut solve.old }
     ensures solver { IsSolver S.FnMut solve.new }
     ensures outcome { IfOk result (λ o. seen_outcome node_of o ≡
-        outcome budget (all_visits (settled rules.now) (menu rules.now) depth (start goal.now))) }
-    ensures node { IfOk result (λ o. IfClosed (IsNode rules.now goal.now) o) }
+        outcome budget (all_visits (settled space.now.rules.now)
+        (menu space.now.kind space.now.rules.now) depth (start goal.now))) }
+    ensures node { IfOk result (λ o.
+        IfClosed (IsNode space.now.kind space.now.rules.now goal.now) o) }
 {
-    let _made = rules.parts();
-    let points = LoopPoints::new(alloc, rules)?;
+    let _made = space.rules.parts();
+    let points = LoopPoints::new(alloc, space.rules)?;
     let mut settle_memo = SettleMemo::new(alloc)?;
     let mut choice_memo = GoalMemo::new(alloc)?;
     let start = Node::start(alloc, goal, MOST_STEPS)?;
     let mut plans = Plans {
         alloc,
-        rules,
+        space,
         goal,
         points: &points,
-        listed,
         settle_memo: &mut settle_memo,
         choice_memo: &mut choice_memo,
         rank_memo,
@@ -118,20 +120,20 @@ fn cover_of<S: FnMut(&Constraint) -> Result<Option<Cert>, FmEnd>>(
 /// Ranks by which all pairs are lower; as there are some, only running out of memory prevents it.
 fn ranks_of<S: FnMut(&Constraint) -> Result<Option<Cert>, FmEnd>>(
     alloc: Global,
-    rules: &RuleSet,
+    space: &SearchSpace<'_>,
     hypotheses: &[Rule],
     memo: &mut PairMemo,
     solve: &mut S,
 ) -> Result<Ranking, NoMemory>
-    requires ranked { ranked rules.now hypotheses.now ≡ Yes }
+    requires ranked { ranked space.now.kind space.now.rules.now hypotheses.now ≡ Yes }
     requires roots { All HasRoot hypotheses.now }
-    requires fits { All (SidesFit rules.now) hypotheses.now }
+    requires fits { All (SidesFit space.now.rules.now) hypotheses.now }
     requires solver { IsSolver S.FnMut solve.old }
     ensures solver { IsSolver S.FnMut solve.new }
-    ensures lowers { IfOk result (LowersAll rules.now hypotheses.now) }
+    ensures lowers { IfOk result (LowersAll space.now.rules.now hypotheses.now) }
     ensures columns { IfOk result (λ ranking. HasColumns ranking.table) }
 {
-    match find_ranks_with(alloc, rules, hypotheses, memo, solve) {
+    match find_ranks_with(alloc, space.kind, space.rules, hypotheses, memo, solve) {
         Ok(Some(ranking)) => Ok(ranking),
         _ => Err(NoMemory),
     }
@@ -166,45 +168,46 @@ fn log_with(
 
 /// The log of steps that lead from a goal to no goal, where there are ranks with the hypotheses
 /// that they kept. It has no domains, and is accepted for the goal and the rules with the domains
-/// that these have; no certificate and no tree in it is deeper than 200, and its rank table has 1 to
-/// 15 columns. Fails only where there is no memory.
+/// that these have; no certificate and no tree in it is deeper than 200, and its rank table has 1
+/// to 15 columns. Fails only where there is no memory.
 pub fn log_of<S: FnMut(&Constraint) -> Result<Option<Cert>, FmEnd>>(
     alloc: Global,
-    rules: &RuleSet,
+    space: &SearchSpace<'_>,
     steps: &[Shared<Step>],
     hypotheses: &[Rule],
     memo: &mut RankMemo,
     solve: &mut S,
 ) -> Result<Log, NoMemory>
-    requires coverable { is_coverable rules.now ≡ true }
-    requires proved { (goal : Equation) × IsProved rules.now goal steps.now hypotheses.now }
+    requires coverable { is_coverable space.now.rules.now ≡ true }
+    requires proved { (goal : Equation) ×
+        IsProved space.now.kind space.now.rules.now goal steps.now hypotheses.now }
     requires solver { IsSolver S.FnMut solve.old }
     ensures solver { IsSolver S.FnMut solve.new }
     ensures steps { IfOk result (λ log. log.steps ≡ steps.now) }
-    ensures accepted { (goal : Equation) → IsProved rules.now goal steps.now hypotheses.now →
-        IfOk result (λ log. verdict_over rules.now goal log ≡ Accepted) }
+    ensures accepted { (goal : Equation) →
+        IsProved space.now.kind space.now.rules.now goal steps.now hypotheses.now →
+        IfOk result (λ log. verdict_over space.now.rules.now goal log ≡ Accepted) }
     ensures bare { IfOk result (λ log. log.domains ≡ None) }
     ensures shallow { IfOk result (λ log. is_shallow_log log ≡ true) }
     ensures columns { IfOk result (λ log. HasColumns log.table) }
 {
-    let covers = cover_of(alloc, rules, solve)?;
-    match ranks_of(alloc, rules, hypotheses, &mut memo.pairs, solve) {
+    let covers = cover_of(alloc, space.rules, solve)?;
+    match ranks_of(alloc, space, hypotheses, &mut memo.pairs, solve) {
         Ok(ranking) => log_with(alloc, steps, covers, ranking),
         Err(NoMemory) => Err(dropped(covers, NoMemory)),
     }
 }
 
-/// Searches for a proof over rules that have ranks, whose pairs are listed: the visits alone, at most
-/// `budget` of them, of nodes with at most `depth` choices on a path, of which at most `most_kept`
-/// are kept from one list of visits to the next. Tests of pairs are kept in the memo.
+/// Searches for a proof over rules that have ranks, whose pairs are listed: the visits alone, at
+/// most `budget` of them, of nodes with at most `depth` choices on a path, of which at most
+/// `most_kept` are kept from one list of visits to the next. Tests of pairs are kept in the memo.
 ///
-/// The answer is a log without domains, which is accepted for the goal and the rules with the domains
-/// that these have; no certificate and no tree in it is deeper than 200, and its rank table has 1 to
-/// 15 columns. `NoPlan`, `Spent` and `Large` are as of `Search::search`.
+/// The answer is a log without domains, which is accepted for the goal and the rules with the
+/// domains that these have; no certificate and no tree in it is deeper than 200, and its rank table
+/// has 1 to 15 columns. `NoPlan`, `Spent` and `Large` are as of `Search::search`.
 pub fn search_over<S: FnMut(&Constraint) -> Result<Option<Cert>, FmEnd>>(
     alloc: Global,
-    rules: &RuleSet,
-    listed: &Listing,
+    space: &SearchSpace<'_>,
     goal: &Equation,
     depth: u32,
     budget: u32,
@@ -212,27 +215,28 @@ pub fn search_over<S: FnMut(&Constraint) -> Result<Option<Cert>, FmEnd>>(
     memo: &mut RankMemo,
     solve: &mut S,
 ) -> Result<Log, SearchEnd>
-    requires ready { IsReady rules.now }
-    requires listed { listed.now ≡ listing rules.now rules.now.rules }
-    requires fits { IsFitting rules.now goal.now }
+    requires ready { IsReady space.now.kind space.now.rules.now }
+    requires listed { space.now.listed.now ≡
+        listing space.now.rules.now space.now.rules.now.rules }
+    requires fits { IsFitting space.now.rules.now goal.now }
     requires solver { IsSolver S.FnMut solve.old }
     ensures solver { IsSolver S.FnMut solve.new }
-    ensures steps { IfOk result (λ log. visited rules.now goal.now depth budget ≡
+    ensures steps { IfOk result (λ log.
+        visited space.now.kind space.now.rules.now goal.now depth budget ≡
         Closed (map move_of log.steps)) }
-    ensures accepted { IfOk result (λ log. verdict_over rules.now goal.now log ≡ Accepted) }
+    ensures accepted { IfOk result (λ log.
+        verdict_over space.now.rules.now goal.now log ≡ Accepted) }
     ensures bare { IfOk result (λ log. log.domains ≡ None) }
     ensures shallow { IfOk result (λ log. is_shallow_log log ≡ true) }
     ensures columns { IfOk result (λ log. HasColumns log.table) }
     ensures ends { IfErr result (λ e. IsEnd depth budget
-        (visited rules.now goal.now depth budget) e) }
+        (visited space.now.kind space.now.rules.now goal.now depth budget) e) }
 {
-    let outcome = visit_plans(
-        alloc, rules, goal, depth, budget, most_kept, listed, memo, solve,
-    )?;
+    let outcome = visit_plans(alloc, space, goal, depth, budget, most_kept, memo, solve)?;
     match outcome {
         Outcome::Closed(node) => {
             let steps = node.steps.as_slice();
-            match log_of(alloc, rules, steps, node.state.hypotheses(), memo, solve) {
+            match log_of(alloc, space, steps, node.state.hypotheses(), memo, solve) {
                 Ok(log) => Ok(dropped(node, log)),
                 Err(NoMemory) => Err(dropped(node, SearchEnd::NoMemory)),
             }
@@ -260,7 +264,8 @@ pub fn unranked_end(alloc: Global, noted: bool, goal: &Equation) -> SearchEnd
 /// The log with these domains.
 fn with_domains(log: Log, domains: Domains) -> Log
     ensures same { result ≡ record log { domains = Some domains } }
-    ensures accepted { (parts : RuleParts) → (goal : Equation) → AreFound parts goal domains →
+    ensures accepted { (kind : RankingKind) → (parts : RuleParts) → (goal : Equation) →
+        AreFound kind parts goal domains →
         verdict_over (with_domains parts domains.rows) goal log ≡ Accepted →
         IsAccepted parts goal result }
     ensures shallow { is_shallow_log log ≡ true → are_shallow_keeps (Some domains) ≡ true →
@@ -282,8 +287,8 @@ fn with_domains(log: Log, domains: Domains) -> Log
     }
 }
 
-/// The log with the domains of the set that it is accepted over. For the rules and the goal that these
-/// were found for, a log that is accepted over that set is accepted with them.
+/// The log with the domains of the set that it is accepted over. For the rules and the goal that
+/// these were found for, a log that is accepted over that set is accepted with them.
 pub fn log_inside(log: Log, inside: Inside) -> Log
     ensures same { result ≡ record log { domains = Some inside.domains } }
     ensures accepted { (parts : RuleParts) → (goal : Equation) → IsInside parts goal inside →
@@ -306,12 +311,12 @@ fn search_inside<S: FnMut(&Constraint) -> Result<Option<Cert>, FmEnd>>(
     memo: &mut RankMemo,
     solve: &mut S,
 ) -> Result<Log, SearchEnd>
-    requires ready { IsReady inside.rules }
+    requires ready { IsReady inside.kind inside.rules }
     requires listed { inside.listed ≡ listing inside.rules inside.rules.rules }
     requires fits { IsFitting inside.rules goal.now }
     requires solver { IsSolver S.FnMut solve.old }
     ensures solver { IsSolver S.FnMut solve.new }
-    ensures steps { IfOk result (λ log. visited inside.rules goal.now depth budget ≡
+    ensures steps { IfOk result (λ log. visited inside.kind inside.rules goal.now depth budget ≡
         Closed (map move_of log.steps)) }
     ensures accepted { (parts : RuleParts) → IsInside parts goal.now inside →
         IfOk result (IsAccepted parts goal.now) }
@@ -320,12 +325,20 @@ fn search_inside<S: FnMut(&Constraint) -> Result<Option<Cert>, FmEnd>>(
     ensures domains { IfOk result (λ log. log.domains ≡ Some inside.domains) }
     ensures columns { IfOk result (λ log. HasColumns log.table) }
     ensures ends { IfErr result (λ e. IsEnd depth budget
-        (visited inside.rules goal.now depth budget) e) }
+        (visited inside.kind inside.rules goal.now depth budget) e) }
 {
-    let Inside { rules, listed, .. } = &inside;
-    match search_over(
-        alloc, rules, listed, goal, depth, budget, most_kept, memo, solve,
-    ) {
+    let Inside {
+        rules,
+        listed,
+        kind,
+        ..
+    } = &inside;
+    let space = SearchSpace {
+        rules,
+        listed,
+        kind: *kind,
+    };
+    match search_over(alloc, &space, goal, depth, budget, most_kept, memo, solve) {
         Ok(log) => Ok(log_inside(log, inside)),
         Err(end) => Err(dropped(inside, end)),
     }
@@ -354,7 +367,7 @@ pub fn search_with<S: FnMut(&Constraint) -> Result<Option<Cert>, FmEnd>>(
         Closed (map move_of log.steps)) }
     ensures accepted { IfOk result (λ log. IsAccepted rules.now goal.now log) }
     ensures domains { IfOk result (λ log.
-        beginning rules.now goal.now ≡ Over (rows_of log.domains)) }
+        BeginsOver rules.now goal.now (rows_of log.domains)) }
     ensures shallow { IfOk result (λ log. is_shallow_log log ≡ true) }
     ensures columns { IfOk result (λ log. HasColumns log.table) }
     ensures ends { IfErr result (λ e. IsEnd depth budget
@@ -362,9 +375,14 @@ pub fn search_with<S: FnMut(&Constraint) -> Result<Option<Cert>, FmEnd>>(
 {
     let begun = begin(alloc, rules, listed, goal, memo, solve)?;
     match begun {
-        Beginning::Plain => search_over(
-            alloc, rules, listed, goal, depth, budget, most_kept, memo, solve,
-        ),
+        Beginning::Bare => {
+            let space = SearchSpace {
+                rules,
+                listed,
+                kind: RankingKind::Plain,
+            };
+            search_over(alloc, &space, goal, depth, budget, most_kept, memo, solve)
+        }
         Beginning::Inside(inside) => search_inside(
             alloc, inside, goal, depth, budget, most_kept, memo, solve,
         ),
@@ -414,18 +432,18 @@ impl<S: FnMut(&Constraint) -> Result<Option<Cert>, FmEnd>> Search<S> {
 
     /// Searches for a proof that both sides of the goal come to the same, over the rules where
     /// these have ranks, and else inside the domains that are found for the goal, where the rules
-    /// have ranks and a cover: nodes are visited by lists, the first with no choices on a path, the
-    /// last with at most `depth` of them, and at most `budget` nodes are visited. The depth is at
-    /// most 12, and the rules have no domains.
+    /// have ranks and a cover, or inside the wider ones: nodes are visited by lists, the first with
+    /// no choices on a path, the last with at most `depth` of them, and at most `budget` nodes are
+    /// visited. The depth is at most 12, and the rules have no domains.
     ///
     /// The answer is a log that is accepted for the rules and the goal; no certificate and no tree
     /// in it is deeper than 200, and its rank table has 1 to 15 columns. It has domains exactly
-    /// where the search went inside them. `NoRanks` where the rules alone have no ranks, and inside
-    /// the domains that are found they have none or no cover; `LargeRanks` where that is so and a
-    /// polynomial passed the limits on the way to the ranks; `NoPlan` where all lists are visited and no node is closed; `Spent`
-    /// where there are more nodes than the budget; `Large`, before these two, where a polynomial
-    /// passed the limits at a node that was visited. Each of these says exactly that; `NoMemory`
-    /// says nothing else.
+    /// where the search went inside them. `LargeRanks` where the rules alone have no ranks, inside
+    /// the domains that are found they have none or no cover, and a polynomial passed the limits on
+    /// the way to the ranks; `NoRanks` where that is so but for the limits, and there are no wider
+    /// domains; `NoPlan` where all lists are visited and no node is closed; `Spent` where there are
+    /// more nodes than the budget; `Large`, before these two, where a polynomial passed the limits
+    /// at a node that was visited. Each of these says exactly that; `NoMemory` says nothing else.
     pub fn search(
         &mut self,
         alloc: Global,
@@ -444,7 +462,7 @@ impl<S: FnMut(&Constraint) -> Result<Option<Cert>, FmEnd>> Search<S> {
             Closed (map move_of log.steps)) }
         ensures accepted { IfOk result (λ log. IsAccepted rules.now goal.now log) }
         ensures domains { IfOk result (λ log.
-            beginning rules.now goal.now ≡ Over (rows_of log.domains)) }
+            BeginsOver rules.now goal.now (rows_of log.domains)) }
         ensures shallow { IfOk result (λ log. is_shallow_log log ≡ true) }
         ensures columns { IfOk result (λ log. HasColumns log.table) }
         ensures ends { IfErr result (λ e. IsEnd depth budget

@@ -21,6 +21,7 @@ use Rattle.rx_wider.specs.Reached.{AreTaken, IsBegun, StartsAt}
 use Rattle.rx_wider.specs.Tails.{goal_under}
 use Rattle.rx_wider.specs.declared.opening.Begun.{Begun}
 use Rattle.rx_rank.specs.Ranking.{ranked}
+use Rattle.rx_rank.specs.declared.kind.RankingKind.{RankingKind}
 
 module _ (parts : RuleParts) (goal to : Equation) where
   abbrev stays : Option Next → Option State
@@ -57,19 +58,20 @@ module _ (parts : RuleParts) (goal to : Equation) where
       ((instance_rows [] to goal).within && (inside_of parts to).within) new e
 
   -- the opening behind that step
-  pub bare_begun : StartsAt parts goal → (new : State) (steps : List Step) →
+  pub bare_begun : (kind : RankingKind) → StartsAt kind parts goal → (new : State)
+      (steps : List Step) →
       AreTaken parts (goal_under [] goal) new (Generalise to [] ∷ []) steps →
       (begun : Begun) → begun ≡ record { steps = steps; state = new } →
-      IsBegun parts goal to begun
-  bare_begun starts new steps takes begun same =
+      IsBegun kind parts goal to begun
+  bare_begun kind starts new steps takes begun same =
       let is = bare_state new takes.leads in
-      subst (IsBegun parts goal to) (sym same) (record {
+      subst (IsBegun kind parts goal to) (sym same) (record {
         goals = ap (λ (s : State). s.goals) is;
         is = record {
           reached =
               reached_more parts goal [] (goal_under [] goal)
               (reached_start parts goal starts.made starts.fits) steps new takes.applies
               takes.deep;
-          ranked = ap (λ (s : State). ranked parts s.hypotheses) is ∙ starts.ranked;
+          ranked = ap (λ (s : State). ranked kind parts s.hypotheses) is ∙ starts.ranked;
         };
       })

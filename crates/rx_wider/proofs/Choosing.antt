@@ -6,6 +6,7 @@ use Rattle.std.proofs.lemmas.List.{append-nil, map-append, take_more}
 use Rattle.std.proofs.lemmas.List.Elements.{All-append, All-cons, All-nil, filter_map-append}
 use Rattle.rx_deepening.specs.Views.{seen_choice}
 use Rattle.rx_deepening.specs.declared.tree.Choice.{Choice}
+use Rattle.rx_rank.specs.declared.kind.RankingKind.{RankingKind}
 use Rattle.rx_term.specs.declared.rule_set.RuleParts.{RuleParts}
 use Rattle.rx_wider.specs.Calls.{node_of}
 use Rattle.rx_wider.specs.Menu.{led}
@@ -23,20 +24,21 @@ numbered_node number o =
 
 -- ---- one choice
 
-module _ (parts : RuleParts) (node : Node) (c : Candidate) (old : List (Choice Node)) where
+module _ (kind : RankingKind) (parts : RuleParts) (node : Node) (c : Candidate)
+    (old : List (Choice Node)) where
   -- it leads to this node
   pub choice_added : (next : Node) (new : List (Choice Node)) →
-      Some (node_of next) ≡ led parts (node_of node) c →
+      Some (node_of next) ≡ led kind parts (node_of node) c →
       new ≡ old ++ record { number = c.number; node = next } ∷ [] →
-      seen new ≡ seen old ++ option_to_list (child parts (node_of node) c)
+      seen new ≡ seen old ++ option_to_list (child kind parts (node_of node) c)
   choice_added next new is same =
       ap seen same
       ∙ map-append (seen_choice node_of) old (record { number = c.number; node = next } ∷ [])
       ∙ ap (λ o. seen old ++ numbered_node c.number o) is
 
   -- it doesn't apply
-  pub no_choice : None ≡ led parts (node_of node) c →
-      seen old ≡ seen old ++ option_to_list (child parts (node_of node) c)
+  pub no_choice : None ≡ led kind parts (node_of node) c →
+      seen old ≡ seen old ++ option_to_list (child kind parts (node_of node) c)
   no_choice is =
       sym (append-nil (seen old)) ∙ ap (λ o. seen old ++ numbered_node c.number o) is
 

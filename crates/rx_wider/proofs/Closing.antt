@@ -12,6 +12,7 @@ use Rattle.rx_term.specs.declared.rule.Equation.{Equation}
 use Rattle.rx_term.specs.declared.rule.Rule.{Rule}
 use Rattle.rx_term.specs.declared.rule_set.RuleParts.{RuleParts}
 use Rattle.rx_moves.specs.Moves.{move_of}
+use Rattle.rx_rank.specs.declared.kind.RankingKind.{RankingKind}
 use Rattle.rx_settle.specs.Settling.{most_moves}
 use Rattle.rx_wider.specs.Calls.{closed_of, moves_of, node_of, opening_of}
 use Rattle.rx_wider.specs.Nodes as nodes
@@ -39,19 +40,21 @@ moves_seen (outcomes.Noted note) = refl
 moves_seen outcomes.Spent = refl
 moves_seen outcomes.Through = refl
 
-module _ (parts : RuleParts) (tails : List Rule) (goal : Equation) (depth budget : ℕ)
+module _ (kind : RankingKind) (parts : RuleParts) (tails : List Rule) (goal : Equation)
+    (depth budget : ℕ)
     (first : nodes.Node) where
   abbrev come : Outcome nodes.Node (Unit {0})
-  come = outcome budget (all_visits (settled parts) (menu parts tails) depth first)
+  come = outcome budget (all_visits (settled parts) (menu kind parts tails) depth first)
 
-  pub node_closed : (o : Found) → seen_outcome node_of o ≡ come → IfClosed (IsNode parts goal) o →
-      IfSome (closed_of o) (IsClosedNode parts goal)
+  pub node_closed : (o : Found) → seen_outcome node_of o ≡ come → IfClosed
+      (IsNode kind parts goal) o →
+      IfSome (closed_of o) (IsClosedNode kind parts goal)
   node_closed (outcomes.Closed node) seen is = record {
     is = is;
     closed =
         no_goals node.at.state.goals
         (closed_told (λ (n : nodes.Node). is_closed n.at.state.goals) (settled parts)
-        (menu parts tails) (λ n. refl) depth budget first (node_of node) (sym seen));
+        (menu kind parts tails) (λ n. refl) depth budget first (node_of node) (sym seen));
   }
   node_closed (outcomes.Noted note) seen is = tt
   node_closed outcomes.Spent seen is = tt
@@ -59,15 +62,15 @@ module _ (parts : RuleParts) (tails : List Rule) (goal : Equation) (depth budget
 
 -- ---- behind an opening
 
-module _ (parts : RuleParts) (from goal : Equation) (begun : Begun)
-    (is : IsBegun parts from goal begun) (start : Node)
+module _ (kind : RankingKind) (parts : RuleParts) (from goal : Equation) (begun : Begun)
+    (is : IsBegun kind parts from goal begun) (start : Node)
     (same : start ≡ record {
       steps = begun.steps;
       at = record { state = begun.state; tasks = [] ∷ [] };
       left = most_moves;
     }) where
-  pub start_is_node : IsNode parts from start
-  start_is_node = subst (IsNode parts from) (sym same) is.is
+  pub start_is_node : IsNode kind parts from start
+  start_is_node = subst (IsNode kind parts from) (sym same) is.is
 
   start_seen : node_of start ≡ spec.start (opening_of begun) goal
   start_seen =
@@ -83,18 +86,19 @@ module _ (parts : RuleParts) (from goal : Equation) (begun : Begun)
 
   module _ (depth budget : ℕ) (tails : List Rule) (kept : tails ≡ begun.state.hypotheses)
       (o : Found) (seen : seen_outcome node_of o ≡ outcome (min budget spec.most_visits)
-      (all_visits (settled parts) (menu parts tails) depth (node_of start))) where
+      (all_visits (settled parts) (menu kind parts tails) depth (node_of start))) where
     pub found_there : (found : Option Node) → found ≡ closed_of o →
         option_map moves_of found ≡
-        spec.found_behind parts depth budget (opening_of begun) goal
+        spec.found_behind kind parts depth budget (opening_of begun) goal
     found_there found e =
         ap (option_map moves_of) e ∙ moves_seen o
         ∙ ap closed_moves (seen ∙ (λ i. outcome (min budget spec.most_visits)
-        (all_visits (settled parts) (menu parts (kept i)) depth (start_seen i))))
+        (all_visits (settled parts) (menu kind parts (kept i)) depth (start_seen i))))
 
     pub closed_there : (found : Option Node) → found ≡ closed_of o →
-        IfClosed (IsNode parts from) o → IfSome found (IsClosedNode parts from)
+        IfClosed (IsNode kind parts from) o → IfSome found (IsClosedNode kind parts from)
     closed_there found e nodes =
-        subst (λ (x : Option Node). IfSome x (IsClosedNode parts from)) (sym e)
-        (node_closed parts tails from depth (min budget spec.most_visits) (node_of start) o seen
+        subst (λ (x : Option Node). IfSome x (IsClosedNode kind parts from)) (sym e)
+        (node_closed kind parts tails from depth (min budget spec.most_visits)
+        (node_of start) o seen
         nodes)

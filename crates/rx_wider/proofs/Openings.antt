@@ -6,6 +6,7 @@ use Rattle.rx_cert.specs.Findings.{Said, Yes, No, Beyond}
 use Rattle.rx_solve.specs.Attempts.{where_shown}
 use Rattle.rx_pairs.specs.Pairs.{HasRoot, SidesFit}
 use Rattle.rx_rank.specs.Ranking.{ranked}
+use Rattle.rx_rank.specs.declared.kind.RankingKind.{RankingKind}
 use Rattle.rx_row.specs.declared.row.Row.{Row}
 use Rattle.rx_term.specs.Domains.{inside_of}
 use Rattle.rx_term.specs.declared.rule.Equation.{Equation}
@@ -72,8 +73,8 @@ module _ (parts : RuleParts) (hypotheses : List Rule) (goal lemma : Equation) wh
 
 -- ---- a lemma that was posed
 
-module _ (parts : RuleParts) (from goal lemma : Equation) (begun : Begun)
-    (is : IsBegun parts from goal begun) where
+module _ (kind : RankingKind) (parts : RuleParts) (from goal lemma : Equation) (begun : Begun)
+    (is : IsBegun kind parts from goal begun) where
   abbrev pub hypotheses : List Rule
   hypotheses = begun.state.hypotheses
 
@@ -107,7 +108,7 @@ module _ (parts : RuleParts) (from goal lemma : Equation) (begun : Begun)
     module _ (walked : Walked)
         (expands : AreTaken parts (goal_under hypotheses lemma) walked.state
         (Expand Left true ∷ []) walked.steps)
-        (ranks : ranked parts walked.state.hypotheses ≡ Yes) (settled : Walked)
+        (ranks : ranked kind parts walked.state.hypotheses ≡ Yes) (settled : Walked)
         (closes : IsSettledLemma parts walked.state (Some settled)) where
       abbrev pub joined_steps : List Step
       joined_steps = begun.steps ++ posing ++ walked.steps ++ settled.steps
@@ -143,7 +144,7 @@ module _ (parts : RuleParts) (from goal lemma : Equation) (begun : Begun)
           settled.steps _
           (after_before parts (goal ∷ []) walked.state settled.state settled.steps applies) deep
 
-      pub joined_begun : IsBegun parts from goal joined
+      pub joined_begun : IsBegun kind parts from goal joined
       joined_begun =
           let (moves, state, closed, same, applies, deep) = closes in
           record {
@@ -154,7 +155,7 @@ module _ (parts : RuleParts) (from goal lemma : Equation) (begun : Begun)
                   (record { goals = gs; hypotheses = settled.state.hypotheses }))
                   (ap (λ gs. gs ++ goal ∷ []) closed ∙ ap (λ gs. goal ∷ gs) (sym closed))
                   settled_reached;
-              ranked = ap (ranked parts) same ∙ ranks;
+              ranked = ap (ranked kind parts) same ∙ ranks;
             };
           }
 
@@ -191,56 +192,56 @@ module _ (parts : RuleParts) (from goal lemma : Equation) (begun : Begun)
 
 -- ---- what is shown
 
-module _ (parts : RuleParts) (from goal lemma : Equation) (begun : Begun)
-    (is : IsBegun parts from goal begun) where
+module _ (kind : RankingKind) (parts : RuleParts) (from goal lemma : Equation) (begun : Begun)
+    (is : IsBegun kind parts from goal begun) where
   abbrev after_expanding : Option State → Option Opening
   after_expanding o = option_and_then (λ (after : State).
       with_shown (opening_of begun) lemma (lemma_settled parts after)) o
 
   abbrev after_posing : Option State → Option Opening
   after_posing o = option_and_then (λ (before : State).
-      after_expanding (expanded_alone parts begun.state.hypotheses lemma)) o
+      after_expanding (expanded_alone kind parts begun.state.hypotheses lemma)) o
 
   posed_is : (o : Option State) → after_moves parts begun.state (Postulate lemma ∷ []) ≡ o →
-      shown parts goal (opening_of begun) lemma ≡ after_posing o
+      shown kind parts goal (opening_of begun) lemma ≡ after_posing o
   posed_is o e =
       ap (λ s. after_posing (after_moves parts s (Postulate lemma ∷ [])))
-      (sym (start_is parts from goal lemma begun is))
+      (sym (start_is kind parts from goal lemma begun is))
       ∙ ap after_posing e
 
   -- it can't be posed
   pub shown_unposed : Poses parts begun.state lemma None →
-      None ≡ shown parts goal (opening_of begun) lemma
+      None ≡ shown kind parts goal (opening_of begun) lemma
   shown_unposed (new, none) = sym (posed_is None none)
 
   module _ (new : State) (posing : List Step)
       (poses : AreTaken parts begun.state new (Postulate lemma ∷ []) posing) where
-    once_posed : shown parts goal (opening_of begun) lemma ≡
-        after_expanding (expanded_alone parts begun.state.hypotheses lemma)
+    once_posed : shown kind parts goal (opening_of begun) lemma ≡
+        after_expanding (expanded_alone kind parts begun.state.hypotheses lemma)
     once_posed = posed_is (Some new) poses.leads
 
     -- it isn't expanded, or there are no ranks with it
-    pub shown_unexpanded : Expands parts begun.state.hypotheses lemma None →
-        None ≡ shown parts goal (opening_of begun) lemma
+    pub shown_unexpanded : Expands kind parts begun.state.hypotheses lemma None →
+        None ≡ shown kind parts goal (opening_of begun) lemma
     shown_unexpanded none = sym (once_posed ∙ ap after_expanding none)
 
     module _ (walked : Walked)
-        (expands : Expands parts begun.state.hypotheses lemma (Some walked)) where
-      ranked_is : has_ranks parts walked.state.hypotheses ≡ true
+        (expands : Expands kind parts begun.state.hypotheses lemma (Some walked)) where
+      ranked_is : has_ranks kind parts walked.state.hypotheses ≡ true
       ranked_is = ap is_yes expands.1
 
-      alone_is : expanded_alone parts begun.state.hypotheses lemma ≡ Some walked.state
+      alone_is : expanded_alone kind parts begun.state.hypotheses lemma ≡ Some walked.state
       alone_is =
-          ap (option_and_then (if_ranked parts)) expands.0.leads
+          ap (option_and_then (if_ranked kind parts)) expands.0.leads
           ∙ ap (λ b. if b then Some walked.state else None) ranked_is
 
-      once_expanded : shown parts goal (opening_of begun) lemma ≡
+      once_expanded : shown kind parts goal (opening_of begun) lemma ≡
           with_shown (opening_of begun) lemma (lemma_settled parts walked.state)
       once_expanded = once_posed ∙ ap after_expanding alone_is
 
       -- a goal of it is left
       pub shown_unsettled : IsSettledLemma parts walked.state None →
-          None ≡ shown parts goal (opening_of begun) lemma
+          None ≡ shown kind parts goal (opening_of begun) lemma
       shown_unsettled left =
           let settling = lemma_settled parts walked.state in
           sym (once_expanded ∙ ap (λ b. if b then Some (record {
@@ -252,19 +253,20 @@ module _ (parts : RuleParts) (from goal lemma : Equation) (begun : Begun)
 
       module _ (settled : Walked)
           (closes : IsSettledLemma parts walked.state (Some settled)) (next : Begun)
-          (same : next ≡ joined parts from goal lemma begun is new posing poses walked expands.0
+          (same : next ≡ joined kind parts from goal lemma begun is new posing poses walked
+          expands.0
           expands.1 settled closes) where
-        pub shown_there : Some (opening_of next) ≡ shown parts goal (opening_of begun) lemma
+        pub shown_there : Some (opening_of next) ≡ shown kind parts goal (opening_of begun) lemma
         shown_there =
             ap (λ (b : Begun). Some (opening_of b)) same
-            ∙ joined_seen parts from goal lemma begun is new posing poses walked expands.0
+            ∙ joined_seen kind parts from goal lemma begun is new posing poses walked expands.0
             expands.1 settled closes
             ∙ sym once_expanded
 
-        pub begun_there : IsBegun parts from goal next
+        pub begun_there : IsBegun kind parts from goal next
         begun_there =
-            subst (IsBegun parts from goal) (sym same)
-            (joined_begun parts from goal lemma begun is new posing poses walked expands.0
+            subst (IsBegun kind parts from goal) (sym same)
+            (joined_begun kind parts from goal lemma begun is new posing poses walked expands.0
             expands.1 settled closes)
 
 -- ---- the hypotheses of the expanded lemma

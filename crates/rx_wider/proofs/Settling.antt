@@ -11,6 +11,7 @@ use Rattle.rx_term.specs.declared.rule.Rule.{Rule}
 use Rattle.rx_term.specs.declared.rule_set.RuleParts.{RuleParts}
 use Rattle.rx_inference.specs.declared.step.Step.{Step}
 use Rattle.rx_rank.specs.Ranking.{ranked}
+use Rattle.rx_rank.specs.declared.kind.RankingKind.{RankingKind}
 use Rattle.rx_moves.specs.Moves.{move_of}
 use Rattle.rx_settle.specs.Settling.{most_moves}
 use Rattle.rx_settle.specs.TaskAnswers.{AreTaskedSteps}
@@ -52,36 +53,37 @@ module _ (parts : RuleParts) (node : Node) (new : Tasked) (found : TaskedSteps)
       }
 
   -- and it is a node of the search
-  pub settled_node : (goal : Equation) (steps : List Step) → steps ≡ node.steps ++ found.steps →
-      new.state.hypotheses ≡ node.at.state.hypotheses → IsNode parts goal node →
-      IsNode parts goal (after steps)
-  settled_node goal steps same hypotheses old =
-      subst (λ (xs : List Step). IsNode parts goal (after xs)) (sym same) (record {
+  pub settled_node : (kind : RankingKind) (goal : Equation)
+      (steps : List Step) → steps ≡ node.steps ++ found.steps →
+      new.state.hypotheses ≡ node.at.state.hypotheses → IsNode kind parts goal node →
+      IsNode kind parts goal (after steps)
+  settled_node kind goal steps same hypotheses old =
+      subst (λ (xs : List Step). IsNode kind parts goal (after xs)) (sym same) (record {
         reached =
             reached_more parts goal node.steps node.at.state old.reached found.steps new.state
             is.applies is.deep;
-        ranked = ap (ranked parts) hypotheses ∙ old.ranked;
+        ranked = ap (ranked kind parts) hypotheses ∙ old.ranked;
       })
 
 -- ---- the menu
 
-module _ (parts : RuleParts) (tails : List Rule) (node : Node) where
+module _ (kind : RankingKind) (parts : RuleParts) (tails : List Rule) (node : Node) where
   abbrev menu_at : Option Equation → Menu nodes.Node (Unit {0})
   menu_at o =
-      menu_of (option_map_or (λ (goal : Equation). filter_map (child parts (node_of node))
+      menu_of (option_map_or (λ (goal : Equation). filter_map (child kind parts (node_of node))
       (candidates parts (descendants parts tails) goal)) o [])
 
   -- there are no choices
   pub no_menu : open_goal (node_of node) ≡ None →
-      record { choices = []; note = None } ≡ menu parts tails (node_of node)
+      record { choices = []; note = None } ≡ menu kind parts tails (node_of node)
   no_menu e = sym (ap menu_at e)
 
   -- those that were found
   pub menu_found : (goal : Equation) (found : List (Choice Node)) →
       open_goal (node_of node) ≡ Some goal →
-      map (seen_choice node_of) found ≡ filter_map (child parts (node_of node))
+      map (seen_choice node_of) found ≡ filter_map (child kind parts (node_of node))
       (candidates parts (descendants parts tails) goal) →
       seen_menu node_of (record { choices = found; note = None }) ≡
-      menu parts tails (node_of node)
+      menu kind parts tails (node_of node)
   menu_found goal found e is =
       (λ i. record { choices = is i; note = None }) ∙ sym (ap menu_at e)

@@ -11,6 +11,7 @@ use Rattle.rx_inference.specs.declared.step.Side.{Side}
 use Rattle.rx_inference.specs.declared.step.Side.TheVariants.{Left, Right}
 use Rattle.rx_inference.specs.declared.step.Step.TheVariants as steps
 use Rattle.rx_moves.specs.Moves.{move_of}
+use Rattle.rx_rank.specs.declared.kind.RankingKind.{RankingKind}
 use Rattle.rx_shapes.specs.Kept.{kept}
 use Rattle.rx_shapes.specs.Places.{places_of}
 use Rattle.rx_shapes.specs.Remainders.{remainders_of}
@@ -76,10 +77,10 @@ module _ (parts : RuleParts) (descend : List Side → Equation → Option (List 
 
 -- ---- where they lead
 
-module _ (parts : RuleParts) (node : Node) where
+module _ (kind : RankingKind) (parts : RuleParts) (node : Node) where
   -- the node that the choice leads to, where it applies
   abbrev pub led : Candidate → Option Node
   led c =
       option_map (node_with node (map move_of c.steps) c.task)
-      (option_and_then (if_fit parts c.keeps)
+      (option_and_then (if_fit kind parts c.keeps)
       (after_moves parts node.at.state (map move_of c.steps)))

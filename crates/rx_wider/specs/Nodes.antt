@@ -7,6 +7,7 @@ use Rattle.rx_term.specs.declared.rule_set.RuleParts.{RuleParts}
 use Rattle.rx_inference.specs.States.{State}
 use Rattle.rx_inference.specs.declared.step.Side.{Side}
 use Rattle.rx_rank.specs.Ranking.{ranked}
+use Rattle.rx_rank.specs.declared.kind.RankingKind.{RankingKind}
 use Rattle.rx_moves.specs.Moves.{Move}
 use Rattle.rx_moves.specs.Trying.{Next, attempt}
 use Rattle.rx_settle.specs.Settling.{most_moves}
@@ -37,19 +38,20 @@ after_moves parts state (move ∷ moves) =
 -- ---- ranks
 
 -- ranks are found with the hypotheses
-abbrev pub has_ranks : RuleParts → List Rule → Bool
-has_ranks parts hypotheses = is_yes (ranked parts hypotheses)
+abbrev pub has_ranks : RankingKind → RuleParts → List Rule → Bool
+has_ranks kind parts hypotheses = is_yes (ranked kind parts hypotheses)
 
 -- the state, where ranks are found with its hypotheses
-abbrev pub if_ranked : RuleParts → State → Option State
-if_ranked parts state = if has_ranks parts state.hypotheses then Some state else None
+abbrev pub if_ranked : RankingKind → RuleParts → State → Option State
+if_ranked kind parts state = if has_ranks kind parts state.hypotheses then Some state else None
 
 -- a hypothesis is kept only where ranks are found with it
-abbrev pub is_fit : RuleParts → Bool → List Rule → Bool
-is_fit parts keeps hypotheses = if keeps then has_ranks parts hypotheses else true
+abbrev pub is_fit : RankingKind → RuleParts → Bool → List Rule → Bool
+is_fit kind parts keeps hypotheses = if keeps then has_ranks kind parts hypotheses else true
 
-abbrev pub if_fit : RuleParts → Bool → State → Option State
-if_fit parts keeps state = if is_fit parts keeps state.hypotheses then Some state else None
+abbrev pub if_fit : RankingKind → RuleParts → Bool → State → Option State
+if_fit kind parts keeps state =
+    if is_fit kind parts keeps state.hypotheses then Some state else None
 
 -- ---- where moves lead
 

@@ -11,6 +11,7 @@ use Rattle.rx_inference.specs.declared.step.Side.{Side}
 use Rattle.rx_inference.specs.declared.step.Side.TheVariants.{Left}
 use Rattle.rx_inference.specs.declared.step.Step.{Step}
 use Rattle.rx_rank.specs.Ranking.{ranked}
+use Rattle.rx_rank.specs.declared.kind.RankingKind.{RankingKind}
 use Rattle.rx_memo.specs.Kept.{IsKept}
 use Rattle.rx_memo.specs.declared.goal_memo.Kept.{Kept}
 use Rattle.rx_moves.specs.Moves.{Expand, Move, Postulate, move_of}
@@ -28,12 +29,12 @@ use Rattle.rx_wider.specs.declared.opening.Begun.{Begun}
 
 -- ---- nodes
 
-module _ (parts : RuleParts) (goal : Equation) where
+module _ (kind : RankingKind) (parts : RuleParts) (goal : Equation) where
   -- the steps lead from the goal to the state, and there are ranks with the hypotheses that were
   -- kept
   pub record IsRanked (steps : List Step) (state : State) : Type 0 where
     pub reached : IsReachedBy parts goal steps state
-    pub ranked : ranked parts state.hypotheses ≡ Yes
+    pub ranked : ranked kind parts state.hypotheses ≡ Yes
 
   abbrev pub IsNode : Node → Type 0
   IsNode node = IsRanked node.steps node.at.state
@@ -49,10 +50,10 @@ module _ (parts : RuleParts) (goal : Equation) where
     pub closed : node.at.state.goals ≡ []
 
 -- a search may start from the goal: the rules are well made, it fits them, and they have ranks
-pub record StartsAt (parts : RuleParts) (goal : Equation) : Type 0 where
+pub record StartsAt (kind : RankingKind) (parts : RuleParts) (goal : Equation) : Type 0 where
   pub made : IsWellMade parts
   pub fits : IsFitting parts goal
-  pub ranked : ranked parts [] ≡ Yes
+  pub ranked : ranked kind parts [] ≡ Yes
 
 -- ---- steps that are tried
 
@@ -90,14 +91,6 @@ module _ (parts : RuleParts) where
         IsReachedBy parts from steps
         (record { goals = lemma ∷ others; hypotheses = hypotheses })
 
-  -- the lemma alone is expanded and kept by these steps, and there are ranks with it; or it isn't
-  abbrev pub Expands : List Rule → Equation → Option Walked → Type 0
-  Expands hypotheses lemma None = expanded_alone parts hypotheses lemma ≡ None
-  Expands hypotheses lemma (Some walked) =
-      AreTaken parts (goal_under hypotheses lemma) walked.state (Expand Left true ∷ [])
-      walked.steps
-      × (ranked parts walked.state.hypotheses ≡ Yes)
-
   -- the goals of the lemma are settled by these steps, and none is left; or some is
   abbrev pub IsSettledLemma : State → Option Walked → Type 0
   IsSettledLemma old None = is_closed (lemma_settled parts old).after.state.goals ≡ false
@@ -108,6 +101,13 @@ module _ (parts : RuleParts) where
       × (walked.state.hypotheses ≡ old.hypotheses)
       × (after_all parts old walked.steps ≡ Ok walked.state)
       × AreDeep walked.steps
+
+-- the lemma alone is expanded and kept by these steps, and there are ranks with it; or it isn't
+abbrev pub Expands : RankingKind → RuleParts → List Rule → Equation → Option Walked → Type 0
+Expands kind parts hypotheses lemma None = expanded_alone kind parts hypotheses lemma ≡ None
+Expands kind parts hypotheses lemma (Some walked) =
+    AreTaken parts (goal_under hypotheses lemma) walked.state (Expand Left true ∷ []) walked.steps
+    × (ranked kind parts walked.state.hypotheses ≡ Yes)
 
 -- ---- choices
 
@@ -132,7 +132,8 @@ pub record Explored : Type 0 where
   pub tails : List Rule
   pub solver : GName
 
--- with the goal
+-- with the goal, and how the rules are ranked
 pub record Problem : Type 0 where
   pub goal : Equation
+  pub kind : RankingKind
   pub explored : Explored

@@ -17,6 +17,7 @@ use Rattle.rx_inference.specs.Pieces.{with_rows}
 use Rattle.rx_inference.specs.States.{State}
 use Rattle.rx_inference.specs.declared.step.Side.TheVariants.{Left, Right}
 use Rattle.rx_moves.specs.Moves.{Move, Expand, Postulate}
+use Rattle.rx_rank.specs.declared.kind.RankingKind.{RankingKind}
 use Rattle.rx_settle.specs.Settling.{most_moves}
 use Rattle.rx_settle.specs.Tasks.{TaskedSettled, settle_tasked, tasks_after}
 use Rattle.rx_shapes.specs.Bounds.{is_with}
@@ -103,19 +104,19 @@ with_shown opening lemma settled =
     })
     else None
 
-module _ (parts : RuleParts) where
-  -- the goals that came of the lemma are settled, each with the right side as its task
-  abbrev pub lemma_settled : State → TaskedSettled
-  lemma_settled state =
-      settle_tasked parts most_moves (record {
-        state = state;
-        tasks = tasks_after (Right ∷ []) [] 1 (length state.goals);
-      })
+-- the goals that came of the lemma are settled, each with the right side as its task
+abbrev pub lemma_settled : RuleParts → State → TaskedSettled
+lemma_settled parts state =
+    settle_tasked parts most_moves (record {
+      state = state;
+      tasks = tasks_after (Right ∷ []) [] 1 (length state.goals);
+    })
 
+module _ (kind : RankingKind) (parts : RuleParts) where
   -- alone under hypotheses the lemma is expanded, and kept as a hypothesis with which there are ranks
   abbrev pub expanded_alone : List Rule → Equation → Option State
   expanded_alone hypotheses lemma =
-      option_and_then (if_ranked parts)
+      option_and_then (if_ranked kind parts)
       (after_moves parts (goal_under hypotheses lemma) (Expand Left true ∷ []))
 
   module _ (goal : Equation) where
@@ -128,7 +129,7 @@ module _ (parts : RuleParts) where
     abbrev pub shown : Opening → Equation → Option Opening
     shown opening lemma =
         option_and_then (λ (before : State).
-        option_and_then (λ (after : State). with_shown opening lemma (lemma_settled after))
+        option_and_then (λ (after : State). with_shown opening lemma (lemma_settled parts after))
         (expanded_alone opening.hypotheses lemma)) (posed opening lemma)
 
     -- so of a lemma whose rows keep the limits

@@ -12,6 +12,7 @@ use Rattle.rx_term.specs.declared.rule.Rule.{Rule}
 use Rattle.rx_term.specs.declared.rule_set.RuleParts.{RuleParts}
 use Rattle.rx_inference.specs.States.{State}
 use Rattle.rx_moves.specs.Moves.{Generalise, Move}
+use Rattle.rx_rank.specs.declared.kind.RankingKind.{RankingKind}
 use Rattle.rx_settle.specs.Settling.{most_moves}
 use Rattle.rx_settle.specs.Tasks.{TaskedSettled, descendants, settle_tasked}
 use Rattle.rx_deepening.specs.Outcomes.{outcome}
@@ -37,9 +38,9 @@ settled_after node s = record {
 }
 
 -- a choice that applies
-abbrev pub child : RuleParts → Node → Candidate → Option (Choice Node)
-child parts node c =
-    option_map (λ next. record { number = c.number; node = next }) (led parts node c)
+abbrev pub child : RankingKind → RuleParts → Node → Candidate → Option (Choice Node)
+child kind parts node c =
+    option_map (λ next. record { number = c.number; node = next }) (led kind parts node c)
 
 abbrev pub menu_of : List (Choice Node) → Menu Node (Unit {0})
 menu_of choices = record { choices = choices; note = None }
@@ -48,17 +49,16 @@ menu_of choices = record { choices = choices; note = None }
 abbrev pub open_goal : Node → Option Equation
 open_goal node = if node.left == 0 then None else slice_get node.at.state.goals 0
 
-module _ (parts : RuleParts) where
-  -- the node is settled by 200 moves at most
-  abbrev pub settled : Node → Settled Node (Unit {0})
-  settled node = settled_after node (settle_tasked parts most_moves node.at)
+-- the node is settled by 200 moves at most
+abbrev pub settled : RuleParts → Node → Settled Node (Unit {0})
+settled parts node = settled_after node (settle_tasked parts most_moves node.at)
 
-  -- its choices, where these lemmas stand before all
-  abbrev pub menu : List Rule → Node → Menu Node (Unit {0})
-  menu tails node =
-      menu_of (option_map_or
-      (λ goal. filter_map (child parts node)
-      (candidates parts (descendants parts tails) goal)) (open_goal node) [])
+-- its choices, where these lemmas stand before all
+abbrev pub menu : RankingKind → RuleParts → List Rule → Node → Menu Node (Unit {0})
+menu kind parts tails node =
+    menu_of (option_map_or
+    (λ goal. filter_map (child kind parts node)
+    (candidates parts (descendants parts tails) goal)) (open_goal node) [])
 
 -- ---- the search
 
@@ -108,25 +108,25 @@ module _ (parts : RuleParts) where
   abbrev pub bare_opening : Equation → Option Opening
   bare_opening goal = if is_inside_bare goal then generalised_bare goal else None
 
-  module _ (depth budget : ℕ) where
-    -- the moves of the first closed node among the first visits
-    abbrev pub found_behind : Opening → Equation → Option (List Move)
-    found_behind opening goal =
-        closed_moves (outcome (min budget most_visits)
-        (all_visits (settled parts) (menu parts opening.hypotheses) depth (start opening goal)))
+module _ (kind : RankingKind) (parts : RuleParts) (depth budget : ℕ) where
+  -- the moves of the first closed node among the first visits
+  abbrev pub found_behind : Opening → Equation → Option (List Move)
+  found_behind opening goal =
+      closed_moves (outcome (min budget most_visits)
+      (all_visits (settled parts) (menu kind parts opening.hypotheses) depth (start opening goal)))
 
-    -- so from the goal behind the lemmas on tail calls, that come after the opening
-    abbrev pub found_from : Equation → Opening → Option (List Move)
-    found_from goal opening = found_behind (with_lemmas parts goal opening) goal
+  -- so from the goal behind the lemmas on tail calls, that come after the opening
+  abbrev pub found_from : Equation → Opening → Option (List Move)
+  found_from goal opening = found_behind (with_lemmas kind parts goal opening) goal
 
-    -- from the goal without rows, where it has some
-    abbrev pub found_bare : Equation → List Row → Option (List Move)
-    found_bare goal [] = None
-    found_bare goal (row ∷ rows) =
-        option_and_then (found_from (bare goal)) (bare_opening goal)
+  -- from the goal without rows, where it has some
+  abbrev pub found_bare : Equation → List Row → Option (List Move)
+  found_bare goal [] = None
+  found_bare goal (row ∷ rows) =
+      option_and_then (found_from (bare goal)) (bare_opening parts goal)
 
 -- from the goal; where no node is closed then, from the goal without rows
-abbrev pub wider : RuleParts → Equation → ℕ → ℕ → Option (List Move)
-wider parts goal depth budget =
-    option_or (found_from parts depth budget goal nothing)
-    (found_bare parts depth budget goal goal.rows)
+abbrev pub wider : RankingKind → RuleParts → Equation → ℕ → ℕ → Option (List Move)
+wider kind parts goal depth budget =
+    option_or (found_from kind parts depth budget goal nothing)
+    (found_bare kind parts depth budget goal goal.rows)

@@ -3,16 +3,16 @@ ghost use Rattle.std.specs.Prelude.{◌≡◌, IfOk};
 ghost use Rattle.rx_shapes.specs.Shown.{is_shown};
 ghost use Rattle.rx_solve.specs.Answers.{IsSolver};
 
+use crate::opening::Setting;
 use rx_cert::Cert;
 use rx_fm::FmEnd;
 use rx_inference::Side;
-use rx_moves::LoopPoints;
 use rx_plain::{Items, NoMemory};
 use rx_row::{Constraint, Row};
 use rx_settle::{SettleMemo, descendants};
 use rx_shapes::Explores;
 use rx_solve::{AllShown, show_all};
-use rx_term::{Equation, Rule, RuleSet};
+use rx_term::{Equation, Rule};
 use std::alloc::Global;
 
 /// Whether the solver shows the row under the given ones.
@@ -37,12 +37,8 @@ fn shows_row<S: FnMut(&Constraint) -> Result<Option<Cert>, FmEnd>>(
 /// What is asked while an equation to keep is looked for, over rules and behind lemmas.
 #[derive(Drop)]
 pub(crate) struct Explorer<'a, S> {
-    /// The allocator.
-    pub(crate) alloc: Global,
-    /// The rules.
-    pub(crate) rules: &'a RuleSet,
-    /// The loop points of the rules.
-    pub(crate) points: &'a LoopPoints,
+    /// What the search stands on.
+    pub(crate) setting: &'a Setting<'a>,
     /// The lemmas.
     pub(crate) tails: &'a [Rule],
     /// What settling knows of goals.
@@ -63,13 +59,14 @@ impl<'a, S: FnMut(&Constraint) -> Result<Option<Cert>, FmEnd>> Explores for Expl
     ghost World = { Explored };
 
     ghost world = { λ e. record {
-      parts = e.rules.now;
+      parts = e.setting.now.rules.now;
       tails = e.tails.now;
       solver = e.solve.ghost_name;
     } };
 
-    ghost ready = { λ e. IsSolver S.FnMut e.solve.now × AreLoopPoints e.rules.now e.points.now ×
-        AreKnown e.rules.now e.memo.now };
+    ghost ready = { λ e. IsSolver S.FnMut e.solve.now ×
+        AreLoopPoints e.setting.now.rules.now e.setting.now.points.now ×
+        AreKnown e.setting.now.rules.now e.memo.now };
 
     ghost found = { λ w task goal. tasks.descendants w.parts w.tails task goal };
 
@@ -79,9 +76,9 @@ impl<'a, S: FnMut(&Constraint) -> Result<Option<Cert>, FmEnd>> Explores for Expl
         goal: &Equation,
     ) -> Result<Option<Items<Equation>>, NoMemory> {
         descendants(
-            self.alloc,
-            self.rules,
-            self.points,
+            self.setting.alloc,
+            self.setting.rules,
+            self.setting.points,
             self.memo,
             self.tails,
             task,
@@ -91,6 +88,6 @@ impl<'a, S: FnMut(&Constraint) -> Result<Option<Cert>, FmEnd>> Explores for Expl
     }
 
     fn shows(&mut self, given: &Constraint, row: &Row) -> Result<bool, NoMemory> {
-        shows_row(self.alloc, given, row, self.solve)
+        shows_row(self.setting.alloc, given, row, self.solve)
     }
 }

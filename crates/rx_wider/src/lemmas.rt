@@ -104,7 +104,7 @@ fn expand_lemma<S: FnMut(&Constraint) -> Result<Option<Cert>, FmEnd>>(
     requires solver { IsSolver S.FnMut solve.old }
     ensures solver { IsSolver S.FnMut solve.new }
     ensures expanded { IfOk result
-        (Expands setting.now.rules.now begun.now.state.hypotheses lemma.now) }
+        (Expands setting.now.kind setting.now.rules.now begun.now.state.hypotheses lemma.now) }
 {
     let mut state = lemma_alone(setting.alloc, begun, lemma)?;
     let steps = [Step::Expand {
@@ -121,14 +121,7 @@ fn expand_lemma<S: FnMut(&Constraint) -> Result<Option<Cert>, FmEnd>>(
     else {
         return Ok(None);
     };
-    if is_ranked(
-        setting.alloc,
-        setting.rules,
-        setting.pairs,
-        &state,
-        ranks,
-        solve,
-    )? {
+    if is_ranked(setting, &state, ranks, solve)? {
         Ok(Some(Walked {
             steps: taken,
             state,
@@ -212,7 +205,8 @@ fn show_lemma<S: FnMut(&Constraint) -> Result<Option<Cert>, FmEnd>>(
     memo: &mut SettleMemo,
     solve: &mut S,
 ) -> Result<Option<Begun>, NoMemory>
-    requires begun { (from : Equation) × IsBegun setting.now.rules.now from goal.now begun.now }
+    requires begun { (from : Equation) ×
+        IsBegun setting.now.kind setting.now.rules.now from goal.now begun.now }
     requires points { AreLoopPoints setting.now.rules.now setting.now.points.now }
     requires pairs { setting.now.pairs.now ≡
         listing setting.now.rules.now setting.now.rules.now.rules }
@@ -221,9 +215,11 @@ fn show_lemma<S: FnMut(&Constraint) -> Result<Option<Cert>, FmEnd>>(
     ensures known { AreKnown setting.now.rules.now memo.new }
     ensures solver { IsSolver S.FnMut solve.new }
     ensures shown { IfOk result (λ o. option_map opening_of o ≡
-        spec.shown setting.now.rules.now goal.now (opening_of begun.now) lemma.now) }
-    ensures begun { (from : Equation) → IsBegun setting.now.rules.now from goal.now begun.now →
-        IfOk result (λ o. IfSome o (IsBegun setting.now.rules.now from goal.now)) }
+        spec.shown setting.now.kind setting.now.rules.now goal.now
+        (opening_of begun.now) lemma.now) }
+    ensures begun { (from : Equation) →
+        IsBegun setting.now.kind setting.now.rules.now from goal.now begun.now →
+        IfOk result (λ o. IfSome o (IsBegun setting.now.kind setting.now.rules.now from goal.now)) }
 {
     let Some(posed) = pose(setting, begun, lemma, solve)? else {
         return Ok(None);
@@ -250,7 +246,8 @@ fn show_inside<S: FnMut(&Constraint) -> Result<Option<Cert>, FmEnd>>(
     memo: &mut SettleMemo,
     solve: &mut S,
 ) -> Result<Option<Begun>, NoMemory>
-    requires begun { (from : Equation) × IsBegun setting.now.rules.now from goal.now begun.now }
+    requires begun { (from : Equation) ×
+        IsBegun setting.now.kind setting.now.rules.now from goal.now begun.now }
     requires points { AreLoopPoints setting.now.rules.now setting.now.points.now }
     requires pairs { setting.now.pairs.now ≡
         listing setting.now.rules.now setting.now.rules.now.rules }
@@ -259,10 +256,11 @@ fn show_inside<S: FnMut(&Constraint) -> Result<Option<Cert>, FmEnd>>(
     ensures known { AreKnown setting.now.rules.now memo.new }
     ensures solver { IsSolver S.FnMut solve.new }
     ensures shown { IfOk result (λ o. option_map opening_of o ≡
-        spec.shown_within setting.now.rules.now goal.now (opening_of begun.now)
+        spec.shown_within setting.now.kind setting.now.rules.now goal.now (opening_of begun.now)
         (spec.inside_lemma setting.now.rules.now lemma.now)) }
-    ensures begun { (from : Equation) → IsBegun setting.now.rules.now from goal.now begun.now →
-        IfOk result (λ o. IfSome o (IsBegun setting.now.rules.now from goal.now)) }
+    ensures begun { (from : Equation) →
+        IsBegun setting.now.kind setting.now.rules.now from goal.now begun.now →
+        IfOk result (λ o. IfSome o (IsBegun setting.now.kind setting.now.rules.now from goal.now)) }
 {
     match inside_lemma(setting.alloc, setting.rules, lemma) {
         Ok(inside) => show_lemma(setting, begun, goal, &inside, ranks, memo, solve),
@@ -281,7 +279,8 @@ fn with_lemma<S: FnMut(&Constraint) -> Result<Option<Cert>, FmEnd>>(
     memo: &mut SettleMemo,
     solve: &mut S,
 ) -> Result<Begun, NoMemory>
-    requires begun { (from : Equation) × IsBegun setting.now.rules.now from goal.now begun }
+    requires begun { (from : Equation) ×
+        IsBegun setting.now.kind setting.now.rules.now from goal.now begun }
     requires points { AreLoopPoints setting.now.rules.now setting.now.points.now }
     requires pairs { setting.now.pairs.now ≡
         listing setting.now.rules.now setting.now.rules.now.rules }
@@ -290,9 +289,11 @@ fn with_lemma<S: FnMut(&Constraint) -> Result<Option<Cert>, FmEnd>>(
     ensures known { AreKnown setting.now.rules.now memo.new }
     ensures solver { IsSolver S.FnMut solve.new }
     ensures opening { IfOk result (λ b. opening_of b ≡
-        spec.with_lemma setting.now.rules.now goal.now (opening_of begun) tail.now) }
-    ensures begun { (from : Equation) → IsBegun setting.now.rules.now from goal.now begun →
-        IfOk result (IsBegun setting.now.rules.now from goal.now) }
+        spec.with_lemma setting.now.kind setting.now.rules.now goal.now
+        (opening_of begun) tail.now) }
+    ensures begun { (from : Equation) →
+        IsBegun setting.now.kind setting.now.rules.now from goal.now begun →
+        IfOk result (IsBegun setting.now.kind setting.now.rules.now from goal.now) }
 {
     match show_inside(setting, &begun, goal, &tail.lemma, ranks, memo, solve) {
         Ok(Some(next)) => Ok(dropped(begun, next)),
@@ -311,7 +312,8 @@ pub(crate) fn with_lemmas<S: FnMut(&Constraint) -> Result<Option<Cert>, FmEnd>>(
     memo: &mut SettleMemo,
     solve: &mut S,
 ) -> Result<Begun, NoMemory>
-    requires begun { (from : Equation) × IsBegun setting.now.rules.now from goal.now begun }
+    requires begun { (from : Equation) ×
+        IsBegun setting.now.kind setting.now.rules.now from goal.now begun }
     requires points { AreLoopPoints setting.now.rules.now setting.now.points.now }
     requires pairs { setting.now.pairs.now ≡
         listing setting.now.rules.now setting.now.rules.now.rules }
@@ -320,9 +322,11 @@ pub(crate) fn with_lemmas<S: FnMut(&Constraint) -> Result<Option<Cert>, FmEnd>>(
     ensures known { AreKnown setting.now.rules.now memo.new }
     ensures solver { IsSolver S.FnMut solve.new }
     ensures opening { IfOk result (λ b. opening_of b ≡
-        fold (spec.with_lemma setting.now.rules.now goal.now) (opening_of begun) tails.now) }
-    ensures begun { (from : Equation) → IsBegun setting.now.rules.now from goal.now begun →
-        IfOk result (IsBegun setting.now.rules.now from goal.now) }
+        fold (spec.with_lemma setting.now.kind setting.now.rules.now goal.now)
+        (opening_of begun) tails.now) }
+    ensures begun { (from : Equation) →
+        IsBegun setting.now.kind setting.now.rules.now from goal.now begun →
+        IfOk result (IsBegun setting.now.kind setting.now.rules.now from goal.now) }
 {
     let mut begun = begun;
     for tail in tails {

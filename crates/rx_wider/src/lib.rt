@@ -28,5 +28,5 @@ pub use node::Node;
 pub use opening::Begun;
 pub use rx_fm::FmEnd;
 pub use rx_plain::NoMemory;
-pub use search::wider_search;
+pub use search::{Reach, wider_search};
 pub use tail_calls::TailCall;

@@ -8,6 +8,7 @@ use rx_inference::Step;
 use rx_moves::LoopPoints;
 use rx_pairs::Listing;
 use rx_plain::{Items, NoMemory, Shared};
+use rx_rank::RankingKind;
 use rx_settle::Tasked;
 use rx_steps::State;
 use rx_term::{Equation, RuleSet};
@@ -24,6 +25,8 @@ pub(crate) struct Setting<'a> {
     pub(crate) points: &'a LoopPoints,
     /// The pairs of the rules inside the domains.
     pub(crate) pairs: &'a Listing,
+    /// The kind of all rankings of these rules, with and without hypotheses.
+    pub(crate) kind: RankingKind,
 }
 
 /// Where steps lead before the visits: to a goal alone, under the hypotheses that lemmas are.

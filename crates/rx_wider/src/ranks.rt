@@ -5,33 +5,39 @@ ghost use Rattle.rx_pairs.specs.Pairs.{HasRoot, SidesFit};
 ghost use Rattle.rx_solve.specs.Answers.{IsSolver};
 ghost use Rattle.rx_wider.specs.Nodes.{has_ranks, is_fit};
 
+use crate::opening::Setting;
 use rx_cert::Cert;
 use rx_fm::FmEnd;
 use rx_has_ranks::{RankMemo, has_ranks_with};
-use rx_pairs::Listing;
 use rx_plain::NoMemory;
 use rx_row::Constraint;
 use rx_steps::State;
-use rx_term::RuleSet;
-use std::alloc::Global;
 
 /// Whether ranks are found with the hypotheses of the state.
 pub(crate) fn is_ranked<S: FnMut(&Constraint) -> Result<Option<Cert>, FmEnd>>(
-    alloc: Global,
-    rules: &RuleSet,
-    pairs: &Listing,
+    setting: &Setting<'_>,
     state: &State,
     memo: &mut RankMemo,
     solve: &mut S,
 ) -> Result<bool, NoMemory>
-    requires pairs { pairs.now ≡ listing rules.now rules.now.rules }
+    requires pairs { setting.now.pairs.now ≡
+        listing setting.now.rules.now setting.now.rules.now.rules }
     requires roots { All HasRoot state.now.hypotheses }
-    requires fits { All (SidesFit rules.now) state.now.hypotheses }
+    requires fits { All (SidesFit setting.now.rules.now) state.now.hypotheses }
     requires solver { IsSolver S.FnMut solve.old }
     ensures solver { IsSolver S.FnMut solve.new }
-    ensures found { IfOk result (λ found. found ≡ has_ranks rules.now state.now.hypotheses) }
+    ensures found { IfOk result (λ found. found ≡
+        has_ranks setting.now.kind setting.now.rules.now state.now.hypotheses) }
 {
-    match has_ranks_with(alloc, rules, pairs, state.hypotheses(), memo, solve) {
+    match has_ranks_with(
+        setting.alloc,
+        setting.kind,
+        setting.rules,
+        setting.pairs,
+        state.hypotheses(),
+        memo,
+        solve,
+    ) {
         Ok(found) => Ok(found),
         Err(FmEnd::Large) => Ok(false),
         Err(FmEnd::NoMemory) => Err(NoMemory),
@@ -40,23 +46,23 @@ pub(crate) fn is_ranked<S: FnMut(&Constraint) -> Result<Option<Cert>, FmEnd>>(
 
 /// Whether the state may be gone on with: where a hypothesis was kept, ranks are to be found with it.
 pub(crate) fn is_fit<S: FnMut(&Constraint) -> Result<Option<Cert>, FmEnd>>(
-    alloc: Global,
-    rules: &RuleSet,
-    pairs: &Listing,
+    setting: &Setting<'_>,
     keeps: bool,
     state: &State,
     memo: &mut RankMemo,
     solve: &mut S,
 ) -> Result<bool, NoMemory>
-    requires pairs { pairs.now ≡ listing rules.now rules.now.rules }
+    requires pairs { setting.now.pairs.now ≡
+        listing setting.now.rules.now setting.now.rules.now.rules }
     requires roots { All HasRoot state.now.hypotheses }
-    requires fits { All (SidesFit rules.now) state.now.hypotheses }
+    requires fits { All (SidesFit setting.now.rules.now) state.now.hypotheses }
     requires solver { IsSolver S.FnMut solve.old }
     ensures solver { IsSolver S.FnMut solve.new }
-    ensures fit { IfOk result (λ fit. fit ≡ is_fit rules.now keeps state.now.hypotheses) }
+    ensures fit { IfOk result (λ fit. fit ≡
+        is_fit setting.now.kind setting.now.rules.now keeps state.now.hypotheses) }
 {
     if keeps {
-        is_ranked(alloc, rules, pairs, state, memo, solve)
+        is_ranked(setting, state, memo, solve)
     } else {
         Ok(true)
     }

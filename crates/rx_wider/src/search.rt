@@ -31,6 +31,7 @@ use rx_memo::GoalMemo;
 use rx_moves::LoopPoints;
 use rx_pairs::Listing;
 use rx_plain::{Items, NoMemory};
+use rx_rank::RankingKind;
 use rx_row::Constraint;
 use rx_settle::{SettleMemo, shared_steps};
 use rx_steps::State;
@@ -42,11 +43,11 @@ const MOST_VISITS: u32 = 200;
 
 /// How far a search goes.
 #[derive(Clone, Copy, Drop)]
-pub(crate) struct Reach {
+pub struct Reach {
     /// How many choices there are on a path at most.
-    pub(crate) depth: u32,
+    pub depth: u32,
     /// How many nodes are visited at most.
-    pub(crate) budget: u32,
+    pub budget: u32,
 }
 
 /// The closed node of an outcome, if there is one.
@@ -61,10 +62,7 @@ fn closed_node(outcome: Outcome<Node, ()>) -> Option<Node>
 
 /// What the visits from the start node come to, where these lemmas stand before all.
 fn visit_tree<S: FnMut(&Constraint) -> Result<Option<Cert>, FmEnd>>(
-    alloc: Global,
-    rules: &RuleSet,
-    points: &LoopPoints,
-    pairs: &Listing,
+    setting: &Setting<'_>,
     from: &Equation,
     tails: &[Rule],
     start: Node,
@@ -72,31 +70,31 @@ fn visit_tree<S: FnMut(&Constraint) -> Result<Option<Cert>, FmEnd>>(
     ranks: &mut RankMemo,
     solve: &mut S,
 ) -> Result<Outcome<Node, ()>, NoMemory>
-    requires start { IsNode rules.now from.now start }
-    requires points { AreLoopPoints rules.now points.now }
-    requires pairs { pairs.now ≡ listing rules.now rules.now.rules }
+    requires start { IsNode setting.now.kind setting.now.rules.now from.now start }
+    requires points { AreLoopPoints setting.now.rules.now setting.now.points.now }
+    requires pairs { setting.now.pairs.now ≡
+        listing setting.now.rules.now setting.now.rules.now.rules }
     requires solver { IsSolver S.FnMut solve.old }
     ensures solver { IsSolver S.FnMut solve.new }
     ensures outcome { IfOk result (λ o. seen_outcome node_of o ≡
         outcome (min reach.budget spec.most_visits)
-        (all_visits (spec.settled rules.now) (spec.menu rules.now tails.now) reach.depth
+        (all_visits (spec.settled setting.now.rules.now)
+        (spec.menu setting.now.kind setting.now.rules.now tails.now) reach.depth
         (node_of start))) }
-    ensures node { IfOk result (λ o. IfClosed (IsNode rules.now from.now) o) }
+    ensures node { IfOk result (λ o.
+        IfClosed (IsNode setting.now.kind setting.now.rules.now from.now) o) }
 {
+    let alloc = setting.alloc;
     let mut memo = SettleMemo::new(alloc)?;
     let mut known = GoalMemo::new(alloc)?;
     let explorer = Explorer {
-        alloc,
-        rules,
-        points,
+        setting,
         tails,
         memo: &mut memo,
         solve,
     };
     let mut tree = WideTree {
-        alloc,
         goal: from,
-        pairs,
         ranks,
         known: &mut known,
         explorer,
@@ -115,27 +113,27 @@ fn visit_behind<S: FnMut(&Constraint) -> Result<Option<Cert>, FmEnd>>(
     ranks: &mut RankMemo,
     solve: &mut S,
 ) -> Result<Option<Node>, NoMemory>
-    requires begun { (goal : Equation) × IsBegun setting.now.rules.now from.now goal begun }
+    requires begun { (goal : Equation) ×
+        IsBegun setting.now.kind setting.now.rules.now from.now goal begun }
     requires points { AreLoopPoints setting.now.rules.now setting.now.points.now }
     requires pairs { setting.now.pairs.now ≡
         listing setting.now.rules.now setting.now.rules.now.rules }
     requires solver { IsSolver S.FnMut solve.old }
     ensures solver { IsSolver S.FnMut solve.new }
-    ensures found { (goal : Equation) → IsBegun setting.now.rules.now from.now goal begun →
+    ensures found { (goal : Equation) →
+        IsBegun setting.now.kind setting.now.rules.now from.now goal begun →
         IfOk result (λ o. option_map moves_of o ≡
-        spec.found_behind setting.now.rules.now reach.depth reach.budget (opening_of begun)
+        spec.found_behind setting.now.kind setting.now.rules.now reach.depth reach.budget
+        (opening_of begun)
         goal) }
     ensures closed { IfOk result (λ o.
-        IfSome o (IsClosedNode setting.now.rules.now from.now)) }
+        IfSome o (IsClosedNode setting.now.kind setting.now.rules.now from.now)) }
 {
     let alloc = setting.alloc;
     let lemmas = begun.state.try_clone(alloc)?;
     let start = begun.into_node(alloc)?;
     let outcome = visit_tree(
-        alloc,
-        setting.rules,
-        setting.points,
-        setting.pairs,
+        setting,
         from,
         lemmas.hypotheses(),
         start,
@@ -156,17 +154,17 @@ fn visit_from<S: FnMut(&Constraint) -> Result<Option<Cert>, FmEnd>>(
     ranks: &mut RankMemo,
     solve: &mut S,
 ) -> Result<Option<Node>, NoMemory>
-    requires begun { IsBegun setting.now.rules.now from.now goal.now begun }
+    requires begun { IsBegun setting.now.kind setting.now.rules.now from.now goal.now begun }
     requires points { AreLoopPoints setting.now.rules.now setting.now.points.now }
     requires pairs { setting.now.pairs.now ≡
         listing setting.now.rules.now setting.now.rules.now.rules }
     requires solver { IsSolver S.FnMut solve.old }
     ensures solver { IsSolver S.FnMut solve.new }
     ensures found { IfOk result (λ o. option_map moves_of o ≡
-        spec.found_from setting.now.rules.now reach.depth reach.budget goal.now
+        spec.found_from setting.now.kind setting.now.rules.now reach.depth reach.budget goal.now
         (opening_of begun)) }
     ensures closed { IfOk result (λ o.
-        IfSome o (IsClosedNode setting.now.rules.now from.now)) }
+        IfSome o (IsClosedNode setting.now.kind setting.now.rules.now from.now)) }
 {
     let tails = tail_calls(setting.alloc, setting.rules, setting.points.loops())?;
     let mut memo = SettleMemo::new(setting.alloc)?;
@@ -216,13 +214,13 @@ fn generalise_bare<S: FnMut(&Constraint) -> Result<Option<Cert>, FmEnd>>(
     solve: &mut S,
 ) -> Result<Option<Begun>, NoMemory>
     requires bare { to.now ≡ spec.bare goal.now }
-    requires start { StartsAt setting.now.rules.now goal.now }
+    requires start { StartsAt setting.now.kind setting.now.rules.now goal.now }
     requires solver { IsSolver S.FnMut solve.old }
     ensures solver { IsSolver S.FnMut solve.new }
     ensures opening { IfOk result (λ o. option_map opening_of o ≡
         spec.generalised_bare setting.now.rules.now goal.now) }
     ensures begun { IfOk result (λ o.
-        IfSome o (IsBegun setting.now.rules.now goal.now to.now)) }
+        IfSome o (IsBegun setting.now.kind setting.now.rules.now goal.now to.now)) }
 {
     let alloc = setting.alloc;
     let mut state = State::start(alloc, goal.try_clone(alloc)?)?;
@@ -245,13 +243,13 @@ fn begin_bare<S: FnMut(&Constraint) -> Result<Option<Cert>, FmEnd>>(
     solve: &mut S,
 ) -> Result<Option<Begun>, NoMemory>
     requires bare { to.now ≡ spec.bare goal.now }
-    requires start { StartsAt setting.now.rules.now goal.now }
+    requires start { StartsAt setting.now.kind setting.now.rules.now goal.now }
     requires solver { IsSolver S.FnMut solve.old }
     ensures solver { IsSolver S.FnMut solve.new }
     ensures opening { IfOk result (λ o. option_map opening_of o ≡
         spec.bare_opening setting.now.rules.now goal.now) }
     ensures begun { IfOk result (λ o.
-        IfSome o (IsBegun setting.now.rules.now goal.now to.now)) }
+        IfSome o (IsBegun setting.now.kind setting.now.rules.now goal.now to.now)) }
 {
     if is_inside_bare(setting.alloc, setting.rules, goal)? {
         generalise_bare(setting, goal, to, solve)
@@ -268,7 +266,7 @@ fn visit_bare<S: FnMut(&Constraint) -> Result<Option<Cert>, FmEnd>>(
     ranks: &mut RankMemo,
     solve: &mut S,
 ) -> Result<Option<Node>, NoMemory>
-    requires start { StartsAt setting.now.rules.now goal.now }
+    requires start { StartsAt setting.now.kind setting.now.rules.now goal.now }
     requires points { AreLoopPoints setting.now.rules.now setting.now.points.now }
     requires pairs { setting.now.pairs.now ≡
         listing setting.now.rules.now setting.now.rules.now.rules }
@@ -276,10 +274,11 @@ fn visit_bare<S: FnMut(&Constraint) -> Result<Option<Cert>, FmEnd>>(
     ensures solver { IsSolver S.FnMut solve.new }
     ensures found { IfOk result (λ o. option_map moves_of o ≡
         option_and_then
-        (spec.found_from setting.now.rules.now reach.depth reach.budget (spec.bare goal.now))
+        (spec.found_from setting.now.kind setting.now.rules.now reach.depth reach.budget
+        (spec.bare goal.now))
         (spec.bare_opening setting.now.rules.now goal.now)) }
     ensures closed { IfOk result (λ o.
-        IfSome o (IsClosedNode setting.now.rules.now goal.now)) }
+        IfSome o (IsClosedNode setting.now.kind setting.now.rules.now goal.now)) }
 {
     let to = bare(setting.alloc, goal)?;
     match begin_bare(setting, goal, &to, solve)? {
@@ -296,16 +295,16 @@ fn visit_both<S: FnMut(&Constraint) -> Result<Option<Cert>, FmEnd>>(
     ranks: &mut RankMemo,
     solve: &mut S,
 ) -> Result<Option<Node>, NoMemory>
-    requires start { StartsAt setting.now.rules.now goal.now }
+    requires start { StartsAt setting.now.kind setting.now.rules.now goal.now }
     requires points { AreLoopPoints setting.now.rules.now setting.now.points.now }
     requires pairs { setting.now.pairs.now ≡
         listing setting.now.rules.now setting.now.rules.now.rules }
     requires solver { IsSolver S.FnMut solve.old }
     ensures solver { IsSolver S.FnMut solve.new }
     ensures found { IfOk result (λ o. option_map moves_of o ≡
-        spec.wider setting.now.rules.now goal.now reach.depth reach.budget) }
+        spec.wider setting.now.kind setting.now.rules.now goal.now reach.depth reach.budget) }
     ensures closed { IfOk result (λ o.
-        IfSome o (IsClosedNode setting.now.rules.now goal.now)) }
+        IfSome o (IsClosedNode setting.now.kind setting.now.rules.now goal.now)) }
 {
     let begun = Begun::new(setting.alloc, goal)?;
     if let Some(node) = visit_from(setting, goal, goal, begun, reach, ranks, solve)? {
@@ -318,33 +317,33 @@ fn visit_both<S: FnMut(&Constraint) -> Result<Option<Cert>, FmEnd>>(
 }
 
 /// Searches for what both sides of the goal keep while they are unfolded side by side: nodes are
-/// visited by lists, the first with no choices on a path, the last with at most `depth` of them,
-/// and at most `budget` nodes are visited, and at most 200. Where none of them is closed and the
-/// goal has rows, but is inside the domains without them, with nothing to be shown for that, they
-/// are visited from the goal without its rows in the same way.
+/// visited by lists, the first with no choices on a path, the last with at most as many of them as
+/// the depth of the reach, and at most as many nodes are visited as its budget, and at most 200.
+/// Where none of them is closed and the goal has rows, but is inside the domains without them, with
+/// nothing to be shown for that, they are visited from the goal without its rows in the same way.
 ///
 /// The answer is the first closed node: its steps lead from the goal to no goal, no certificate is
-/// deeper than 174, and there are ranks with the hypotheses that it kept. None exactly where there
-/// is no such node. Fails only where there is no memory. The solver is asked in place of the
-/// refuter.
+/// deeper than 174, and there are ranks of this kind with the hypotheses that it kept. None exactly
+/// where there is no such node. Fails only where there is no memory. The solver is asked in place
+/// of the refuter.
 pub fn wider_search<S: FnMut(&Constraint) -> Result<Option<Cert>, FmEnd>>(
     alloc: Global,
+    kind: RankingKind,
     rules: &RuleSet,
     pairs: &Listing,
     goal: &Equation,
-    depth: u32,
-    budget: u32,
+    reach: Reach,
     ranks: &mut RankMemo,
     solve: &mut S,
 ) -> Result<Option<Node>, NoMemory>
     requires fits { IsFitting rules.now goal.now }
-    requires ranked { ranked rules.now [] ≡ Yes }
+    requires ranked { ranked kind rules.now [] ≡ Yes }
     requires pairs { pairs.now ≡ listing rules.now rules.now.rules }
     requires solver { IsSolver S.FnMut solve.old }
     ensures solver { IsSolver S.FnMut solve.new }
     ensures found { IfOk result (λ o. option_map moves_of o ≡
-        spec.wider rules.now goal.now depth budget) }
-    ensures closed { IfOk result (λ o. IfSome o (IsClosedNode rules.now goal.now)) }
+        spec.wider kind rules.now goal.now reach.depth reach.budget) }
+    ensures closed { IfOk result (λ o. IfSome o (IsClosedNode kind rules.now goal.now)) }
 {
     let _made = rules.parts();
     let points = LoopPoints::new(alloc, rules)?;
@@ -353,6 +352,7 @@ pub fn wider_search<S: FnMut(&Constraint) -> Result<Option<Cert>, FmEnd>>(
         rules,
         points: &points,
         pairs,
+        kind,
     };
-    visit_both(&setting, goal, Reach { depth, budget }, ranks, solve)
+    visit_both(&setting, goal, reach, ranks, solve)
 }

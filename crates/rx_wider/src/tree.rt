@@ -4,6 +4,7 @@ ghost use Rattle.std.specs.Prelude.{◌≡◌, ◌++◌, All, None, IfOk};
 ghost use Rattle.rx_deepening.specs.Views.{seen_menu, seen_settled};
 ghost use Rattle.rx_moves.specs.LoopPoints.{AreLoopPoints};
 ghost use Rattle.rx_pairs.specs.Inside.{listing};
+ghost use Rattle.rx_rank.specs.declared.kind.RankingKind.{RankingKind};
 ghost use Rattle.rx_settle.specs.Known.{AreKnown};
 ghost use Rattle.rx_settle.specs.Tasks.{descendants};
 ghost use Rattle.rx_solve.specs.Answers.{IsSolver};
@@ -22,7 +23,6 @@ use rx_cert::Cert;
 use rx_deepening::{Menu, Settled, Tree};
 use rx_fm::FmEnd;
 use rx_has_ranks::RankMemo;
-use rx_pairs::Listing;
 use rx_plain::{Items, NoMemory};
 use rx_row::Constraint;
 use rx_settle::{TaskedSteps, append_steps, settle_tasks};
@@ -59,25 +59,28 @@ fn settle_node<S: FnMut(&Constraint) -> Result<Option<Cert>, FmEnd>>(
     explorer: &mut Explorer<'_, S>,
     mut node: Node,
 ) -> Result<Settled<Node, ()>, NoMemory>
-    requires points { AreLoopPoints explorer.old.rules.now explorer.old.points.now }
-    requires known { AreKnown explorer.old.rules.now explorer.old.memo.now }
+    requires points { AreLoopPoints explorer.old.setting.now.rules.now
+        explorer.old.setting.now.points.now }
+    requires known { AreKnown explorer.old.setting.now.rules.now explorer.old.memo.now }
     requires solver { IsSolver S.FnMut explorer.old.solve.now }
-    ensures points { AreLoopPoints explorer.new.rules.now explorer.new.points.now }
-    ensures known { AreKnown explorer.new.rules.now explorer.new.memo.now }
+    ensures points { AreLoopPoints explorer.new.setting.now.rules.now
+        explorer.new.setting.now.points.now }
+    ensures known { AreKnown explorer.new.setting.now.rules.now explorer.new.memo.now }
     ensures solver { IsSolver S.FnMut explorer.new.solve.now }
-    ensures rules { explorer.new.rules.now ≡ explorer.old.rules.now }
+    ensures setting { explorer.new.setting.now ≡ explorer.old.setting.now }
     ensures tails { explorer.new.tails.now ≡ explorer.old.tails.now }
     ensures name { explorer.new.solve.ghost_name ≡ explorer.old.solve.ghost_name }
     ensures settled { IfOk result (λ s. seen_settled node_of s ≡
-        settled explorer.old.rules.now (node_of node)) }
-    ensures node { (goal : Equation) → IsNode explorer.old.rules.now goal node →
-        IfOk result (λ s. IsNode explorer.old.rules.now goal s.node) }
+        settled explorer.old.setting.now.rules.now (node_of node)) }
+    ensures node { (kind : RankingKind) → (goal : Equation) →
+        IsNode kind explorer.old.setting.now.rules.now goal node →
+        IfOk result (λ s. IsNode kind explorer.old.setting.now.rules.now goal s.node) }
 {
-    let alloc = explorer.alloc;
+    let alloc = explorer.setting.alloc;
     let found = settle_tasks(
         alloc,
-        explorer.rules,
-        explorer.points,
+        explorer.setting.rules,
+        explorer.setting.points,
         explorer.memo,
         &mut node.at,
         explorer.solve,
@@ -90,52 +93,50 @@ fn settle_node<S: FnMut(&Constraint) -> Result<Option<Cert>, FmEnd>>(
 
 /// The choices at a settled node; there are none where settling took all steps, or no goal is left.
 fn find_menu<S: FnMut(&Constraint) -> Result<Option<Cert>, FmEnd>>(
-    alloc: Global,
     node: &Node,
-    pairs: &Listing,
     ranks: &mut RankMemo,
     known: &mut CandidateMemo,
     explorer: &mut Explorer<'_, S>,
 ) -> Result<Menu<Node, ()>, NoMemory>
-    requires node { (goal : Equation) × IsNode explorer.old.rules.now goal node.now }
-    requires pairs { pairs.now ≡
-        listing explorer.old.rules.now explorer.old.rules.now.rules }
-    requires known { AreChoices explorer.old.rules.now
-        (descendants explorer.old.rules.now explorer.old.tails.now) known.old }
+    requires node { (goal : Equation) ×
+        IsNode explorer.old.setting.now.kind explorer.old.setting.now.rules.now goal node.now }
+    requires pairs { explorer.old.setting.now.pairs.now ≡
+        listing explorer.old.setting.now.rules.now explorer.old.setting.now.rules.now.rules }
+    requires known { AreChoices explorer.old.setting.now.rules.now
+        (descendants explorer.old.setting.now.rules.now explorer.old.tails.now) known.old }
     requires solver { IsSolver S.FnMut explorer.old.solve.now }
-    requires points { AreLoopPoints explorer.old.rules.now explorer.old.points.now }
-    requires settling { AreKnown explorer.old.rules.now explorer.old.memo.now }
-    ensures known { AreChoices explorer.old.rules.now
-        (descendants explorer.old.rules.now explorer.old.tails.now) known.new }
+    requires points { AreLoopPoints explorer.old.setting.now.rules.now
+        explorer.old.setting.now.points.now }
+    requires settling { AreKnown explorer.old.setting.now.rules.now explorer.old.memo.now }
+    ensures known { AreChoices explorer.old.setting.now.rules.now
+        (descendants explorer.old.setting.now.rules.now explorer.old.tails.now) known.new }
     ensures solver { IsSolver S.FnMut explorer.new.solve.now }
-    ensures points { AreLoopPoints explorer.new.rules.now explorer.new.points.now }
-    ensures settling { AreKnown explorer.new.rules.now explorer.new.memo.now }
-    ensures rules { explorer.new.rules.now ≡ explorer.old.rules.now }
+    ensures points { AreLoopPoints explorer.new.setting.now.rules.now
+        explorer.new.setting.now.points.now }
+    ensures settling { AreKnown explorer.new.setting.now.rules.now explorer.new.memo.now }
+    ensures setting { explorer.new.setting.now ≡ explorer.old.setting.now }
     ensures tails { explorer.new.tails.now ≡ explorer.old.tails.now }
     ensures name { explorer.new.solve.ghost_name ≡ explorer.old.solve.ghost_name }
     ensures menu { IfOk result (λ m. seen_menu node_of m ≡
-        menu explorer.old.rules.now explorer.old.tails.now (node_of node.now)) }
-    ensures nodes { (goal : Equation) → IsNode explorer.old.rules.now goal node.now →
-        IfOk result (λ m. All (λ c. IsNode explorer.old.rules.now goal c.node) m.choices) }
+        menu explorer.old.setting.now.kind explorer.old.setting.now.rules.now explorer.old.tails.now
+        (node_of node.now)) }
+    ensures nodes { (goal : Equation) →
+        IsNode explorer.old.setting.now.kind explorer.old.setting.now.rules.now goal node.now →
+        IfOk result (λ m. All (λ c. IsNode explorer.old.setting.now.kind
+        explorer.old.setting.now.rules.now goal c.node) m.choices) }
 {
+    let setting = explorer.setting;
+    let alloc = setting.alloc;
     let Some(first) = node.open_goal()? else {
         return Ok(Menu {
             choices: Items::new(alloc),
             note: None,
         });
     };
-    let rules = explorer.rules;
-    let loops = explorer.points.loops();
-    let all = known_candidates(alloc, rules, loops, known, explorer, first)?;
-    let choices = find_choices(
-        alloc,
-        rules,
-        node,
-        all.get().as_slice(),
-        pairs,
-        ranks,
-        explorer.solve,
-    )?;
+    let loops = setting.points.loops();
+    let all = known_candidates(alloc, setting.rules, loops, known, explorer, first)?;
+    let candidates = all.get().as_slice();
+    let choices = find_choices(setting, node, candidates, ranks, explorer.solve)?;
     Ok(Menu {
         choices,
         note: None,
@@ -145,12 +146,8 @@ fn find_menu<S: FnMut(&Constraint) -> Result<Option<Cert>, FmEnd>>(
 /// The plans for a goal over rules, behind lemmas.
 #[derive(Drop)]
 pub(crate) struct WideTree<'a, 'b, S> {
-    /// The allocator.
-    pub(crate) alloc: Global,
     /// The goal from which the first steps lead.
     pub(crate) goal: &'a Equation,
-    /// The pairs of the rules inside the domains.
-    pub(crate) pairs: &'a Listing,
     /// What was found out of pairs.
     pub(crate) ranks: &'a mut RankMemo,
     /// What is known of the choices at goals.
@@ -179,42 +176,37 @@ impl<'a, 'b, S: FnMut(&Constraint) -> Result<Option<Cert>, FmEnd>> Tree for Wide
 
     ghost world = { λ t. record {
       goal = t.goal.now;
+      kind = t.explorer.setting.now.kind;
       explored = record {
-        parts = t.explorer.rules.now;
+        parts = t.explorer.setting.now.rules.now;
         tails = t.explorer.tails.now;
         solver = t.explorer.solve.ghost_name;
       };
     } };
 
     ghost ready = { λ t. IsSolver S.FnMut t.explorer.solve.now ×
-        AreLoopPoints t.explorer.rules.now t.explorer.points.now ×
-        (t.pairs.now ≡ listing t.explorer.rules.now t.explorer.rules.now.rules) ×
-        AreKnown t.explorer.rules.now t.explorer.memo.now ×
-        AreChoices t.explorer.rules.now
-        (descendants t.explorer.rules.now t.explorer.tails.now) t.known.now };
+        AreLoopPoints t.explorer.setting.now.rules.now t.explorer.setting.now.points.now ×
+        (t.explorer.setting.now.pairs.now ≡ listing t.explorer.setting.now.rules.now
+        t.explorer.setting.now.rules.now.rules) ×
+        AreKnown t.explorer.setting.now.rules.now t.explorer.memo.now ×
+        AreChoices t.explorer.setting.now.rules.now
+        (descendants t.explorer.setting.now.rules.now t.explorer.tails.now) t.known.now };
 
     ghost View = { nodes.Node };
 
     ghost view = { node_of };
 
-    ghost valid = { λ w n. IsNode w.explored.parts w.goal n };
+    ghost valid = { λ w n. IsNode w.kind w.explored.parts w.goal n };
 
     ghost settled = { λ w v. wider.settled w.explored.parts v };
 
-    ghost menu = { λ w v. wider.menu w.explored.parts w.explored.tails v };
+    ghost menu = { λ w v. wider.menu w.kind w.explored.parts w.explored.tails v };
 
     fn settle(&mut self, node: Node) -> Result<Settled<Node, ()>, NoMemory> {
         settle_node(&mut self.explorer, node)
     }
 
     fn choices(&mut self, node: &Node) -> Result<Menu<Node, ()>, NoMemory> {
-        find_menu(
-            self.alloc,
-            node,
-            self.pairs,
-            self.ranks,
-            self.known,
-            &mut self.explorer,
-        )
+        find_menu(node, self.ranks, self.known, &mut self.explorer)
     }
 }

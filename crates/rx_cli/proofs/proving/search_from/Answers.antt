@@ -6,13 +6,13 @@ use Rattle.rx_cli.proofs.proving.search_from.Goals as goal
 
 pub search_both-requires-clause-ready : goal.search_both-requires-clause-ready
 search_both-requires-clause-ready g c =
-    let is = subst (IsBegun c.args.problem.now.rules c.args.problem.now.goal) c.in-Plain.is
+    let is = subst (IsBegun c.args.problem.now.rules c.args.problem.now.goal) c.in-Bare.is
     c.in_ok-begun.ensures.begun in
     record { coverable = c.requires.coverable; ranked = is.1 }
 
-pub returns-in-Plain-clause-found : goal.returns-in-Plain-clause-found
-returns-in-Plain-clause-found g c =
-    let is = subst (IsBegun c.args.problem.now.rules c.args.problem.now.goal) c.in-Plain.is
+pub returns-in-Bare-clause-found : goal.returns-in-Bare-clause-found
+returns-in-Bare-clause-found g c =
+    let is = subst (IsBegun c.args.problem.now.rules c.args.problem.now.goal) c.in-Bare.is
     c.in_ok-begun.ensures.begun in
     plain_found c.args.problem.now c.args.effort c.search_both.result is.0
     c.search_both.ensures.found

@@ -10,15 +10,16 @@ use Rattle.rx_cli.proofs.Searching.{closed_proved}
 use Rattle.rx_cli.proofs.proving.wider_log.Goals as goal
 
 pub log_of-requires-clause-proved : goal.log_of-requires-clause-proved
-log_of-requires-clause-proved g c = (
-  c.args.goal.now,
-  closed_proved c.args.rules.now c.args.goal.now c.in-Some.node
-      c.as_slice-steps.result.now c.hypotheses-hypotheses.result.now
-      (subst (λ (o : Option Node).
-      IfSome o (IsClosedNode c.args.rules.now c.args.goal.now)) c.in-Some.is
-      c.in_ok-found.ensures.closed)
-      c.as_slice-steps.ensures c.hypotheses-hypotheses.ensures,
-)
+log_of-requires-clause-proved g c =
+    let s = c.args.space.now in (
+      c.args.goal.now,
+      closed_proved s.kind s.rules.now c.args.goal.now c.in-Some.node
+          c.as_slice-steps.result.now c.hypotheses-hypotheses.result.now
+          (subst (λ (o : Option Node).
+          IfSome o (IsClosedNode s.kind s.rules.now c.args.goal.now)) c.in-Some.is
+          c.in_ok-found.ensures.closed)
+          c.as_slice-steps.ensures c.hypotheses-hypotheses.ensures,
+    )
 
 pub returns-in_ok-log-in-Some-clause-found : goal.returns-in_ok-log-in-Some-clause-found
 returns-in_ok-log-in-Some-clause-found g c =
@@ -28,10 +29,11 @@ returns-in_ok-log-in-Some-clause-found g c =
 
 pub returns-in_ok-log-in-Some-clause-accepted : goal.returns-in_ok-log-in-Some-clause-accepted
 returns-in_ok-log-in-Some-clause-accepted g c =
+    let s = c.args.space.now in
     c.in_ok-log-in-Some.ensures.accepted c.args.goal.now
-    (closed_proved c.args.rules.now c.args.goal.now c.in-Some.node
+    (closed_proved s.kind s.rules.now c.args.goal.now c.in-Some.node
     c.as_slice-steps.result.now c.hypotheses-hypotheses.result.now
     (subst (λ (o : Option Node).
-    IfSome o (IsClosedNode c.args.rules.now c.args.goal.now)) c.in-Some.is
+    IfSome o (IsClosedNode s.kind s.rules.now c.args.goal.now)) c.in-Some.is
     c.in_ok-found.ensures.closed)
     c.as_slice-steps.ensures c.hypotheses-hypotheses.ensures)

@@ -17,13 +17,15 @@ returns-in_ok-push-in-None-clause-leaving c =
     ap (λ f. close_all a.column a.closed.now.items (fallen (((a.entry, a.held), f) ∷ [])))
     (sym c.in-None.is)
 
-pub returns-in_ok-with_certs-in-Some-clause-staying : goal.returns-in_ok-with_certs-in-Some-clause-staying
+pub returns-in_ok-with_certs-in-Some-clause-staying :
+    goal.returns-in_ok-with_certs-in-Some-clause-staying
 returns-in_ok-with_certs-in-Some-clause-staying c =
     let a = c.args in
     sym (append-nil a.left.now.items)
     ∙ ap (λ f. a.left.now.items ++ left_open (((a.entry, a.held), f) ∷ [])) (sym c.in-Some.is)
 
-pub returns-in_ok-with_certs-in-Some-clause-leaving : goal.returns-in_ok-with_certs-in-Some-clause-leaving
+pub returns-in_ok-with_certs-in-Some-clause-leaving :
+    goal.returns-in_ok-with_certs-in-Some-clause-leaving
 returns-in_ok-with_certs-in-Some-clause-leaving c =
     let a = c.args in
     c.close_entry.ensures

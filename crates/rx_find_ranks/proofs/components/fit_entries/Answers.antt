@@ -12,7 +12,7 @@ returns-clause-tried g c =
     let a = c.args in
     subst (λ (ps : List Pair). IfOk c.fit_component.result (λ t.
     tried_as (λ fit. still_open ps fit.falls.items) t ≡
-    component a.parts.now a.hypotheses.now a.names.now a.name ps))
+    component a.kind a.parts.now a.hypotheses.now a.names.now a.name ps))
     (ap pairs_at c.as_slice-pairs.ensures.value ∙ c.in_ok-lent.ensures)
     c.fit_component.ensures.tried
 
@@ -20,6 +20,6 @@ pub returns-clause-fit : goal.returns-clause-fit
 returns-clause-fit g c =
     let a = c.args in
     subst (λ (ps : List Pair). IfOk c.fit_component.result (λ t. IfSome t.made
-    (IsComponentFit a.parts.now a.hypotheses.now a.names.now a.name ps)))
+    (IsComponentFit a.kind a.parts.now a.hypotheses.now a.names.now a.name ps)))
     (ap pairs_at c.as_slice-pairs.ensures.value ∙ c.in_ok-lent.ensures)
     c.fit_component.ensures.fit

@@ -8,7 +8,8 @@ use Rattle.rx_find_ranks.proofs.components.fit_one_more.Goals as goal
 
 pub returns-then-entries-eq0-clause-more : goal.returns-then-entries-eq0-clause-more
 returns-then-entries-eq0-clause-more g c =
-    more_empty c.args.parts.now c.args.hypotheses.now c.args.names.now c.args.name c.args.before
+    more_empty c.args.kind c.args.parts.now c.args.hypotheses.now c.args.names.now c.args.name
+    c.args.before
     c.args.entries.now c.if-entries-eq0.true
 
 pub returns-clause-more : goal.returns-clause-more
@@ -17,6 +18,7 @@ returns-clause-more g c =
     let some : length pairs ≡ 0 → ⊥ = λ none.
     c.if-entries-eq0.false (sym (open_count c.args.entries.now) ∙ none) in
     IfOk-weaker c.join_next.result _ _
-    (λ t h. one_joined c.args.parts.now c.args.hypotheses.now c.args.names.now c.args.name pairs
+    (λ t h. one_joined c.args.kind c.args.parts.now c.args.hypotheses.now c.args.names.now
+    c.args.name pairs
     c.args.before c.in_ok-tried.tried t some c.in_ok-tried.ensures.tried c.in_ok-tried.ensures.fit
     h) c.join_next.ensures

@@ -14,7 +14,8 @@ fit_groups-requires-clause-few g c =
     let found : names ≡ representatives_of (length c.args.parts.now.symbols) (pairs_open entries) =
     c.as_slice-names.ensures.value ∙ c.in_ok-components.ensures ∙
     (λ i. representatives_of (c.len.ensures i) (pairs_open (c.as_slice.ensures.value i))) in
-    few_groups c.args.parts.now c.args.hypotheses.now entries names groups c.as_slice-lent.result.now
+    few_groups c.args.kind c.args.parts.now c.args.hypotheses.now entries names groups
+    c.as_slice-lent.result.now
     found c.in_ok-groups.ensures c.as_slice-lent.ensures.value c.requires.few
 
 pub returns-clause-tried : goal.returns-clause-tried
@@ -26,7 +27,7 @@ returns-clause-tried g c =
     c.as_slice-names.ensures.value ∙ c.in_ok-components.ensures ∙
     (λ i. representatives_of (c.len.ensures i) (pairs_open (c.as_slice.ensures.value i))) in
     IfOk-weaker c.with_entries.result _ _
-    (λ t are. fits_tried c.args.parts.now c.args.hypotheses.now entries names groups
+    (λ t are. fits_tried c.args.kind c.args.parts.now c.args.hypotheses.now entries names groups
     c.as_slice-lent.result.now found c.in_ok-groups.ensures c.as_slice-lent.ensures.value
     c.in_ok-tried.tried t c.in_ok-tried.ensures.tried are) c.with_entries.ensures
 
@@ -39,7 +40,7 @@ returns-clause-fits g c =
     c.as_slice-names.ensures.value ∙ c.in_ok-components.ensures ∙
     (λ i. representatives_of (c.len.ensures i) (pairs_open (c.as_slice.ensures.value i))) in
     IfOk-weaker c.with_entries.result _ _
-    (λ t are. fits_are c.args.parts.now c.args.hypotheses.now entries names groups
+    (λ t are. fits_are c.args.kind c.args.parts.now c.args.hypotheses.now entries names groups
     c.as_slice-lent.result.now found c.in_ok-groups.ensures c.as_slice-lent.ensures.value
     c.requires.over c.in_ok-tried.tried.made t.made are.made c.in_ok-tried.ensures.fit)
     c.with_entries.ensures

@@ -12,14 +12,15 @@ use Rattle.rx_find_ranks.proofs.ranking.rank_all.Goals as goal
 
 pub returns-then-not-listed-clause-tried : goal.returns-then-not-listed-clause-tried
 returns-then-not-listed-clause-tried g c =
-    not_whole c.args.rules.now c.args.hypotheses.now c.in_ok-listed.listed c.in_ok-listed.ensures
+    not_whole c.args.kind c.args.rules.now c.args.hypotheses.now c.in_ok-listed.listed
+    c.in_ok-listed.ensures
     (not-true c.in_ok-listed.listed.whole c.if-not-listed.true)
 
 pub rank_from-requires-clause-over : goal.rank_from-requires-clause-over
 rank_from-requires-clause-over g c =
     let begun = subst (λ ps. IsBegun ps c.in_ok-start.start) c.into_vec-pairs.ensures
     c.in_ok-start.ensures in
-    first_over c.args.rules.now c.parts-parts.result.now c.args.hypotheses.now
+    first_over c.args.kind c.args.rules.now c.parts-parts.result.now c.args.hypotheses.now
     c.parts-parts.ensures.parts c.parts-parts.ensures.made c.requires.roots c.requires.fits
     c.in_ok-listed.listed c.in_ok-listed.ensures (not-false c.in_ok-listed.listed.whole
     c.if-not-listed.false) c.in_ok-start.start begun
@@ -32,7 +33,7 @@ returns-in_ok-found-in-Some-clause-tried g c =
     record { made = option_map (λ (p : Progress). tt {0}) o; noted = c.in_ok-tried.tried.noted }
     in
     sym (ap shown c.in-Some.is) ∙ c.in_ok-tried.ensures.tried
-    ∙ first_ranking c.args.rules.now c.parts-parts.result.now c.args.hypotheses.now
+    ∙ first_ranking c.args.kind c.args.rules.now c.parts-parts.result.now c.args.hypotheses.now
     c.parts-parts.ensures.parts c.parts-parts.ensures.made c.requires.roots c.requires.fits
     c.in_ok-listed.listed c.in_ok-listed.ensures (not-false c.in_ok-listed.listed.whole
     c.if-not-listed.false) c.in_ok-start.start begun
@@ -43,7 +44,7 @@ returns-in_ok-found-in-Some-clause-lowers g c =
     c.in_ok-start.ensures in
     let ranked = subst (λ o. IfSome o (IsRanked c.parts-parts.result.now.symbols
     c.in_ok-start.start)) c.in-Some.is c.in_ok-tried.ensures.made in
-    lowers_here c.args.rules.now c.parts-parts.result.now c.args.hypotheses.now
+    lowers_here c.args.kind c.args.rules.now c.parts-parts.result.now c.args.hypotheses.now
     c.parts-parts.ensures.parts c.parts-parts.ensures.made c.requires.roots c.requires.fits
     c.in_ok-listed.listed c.in_ok-listed.ensures (not-false c.in_ok-listed.listed.whole
     c.if-not-listed.false) c.in_ok-start.start begun
@@ -66,7 +67,7 @@ returns-in-None-clause-tried g c =
     record { made = option_map (λ (p : Progress). tt {0}) o; noted = c.in_ok-tried.tried.noted }
     in
     sym (ap shown c.in-None.is) ∙ c.in_ok-tried.ensures.tried
-    ∙ first_ranking c.args.rules.now c.parts-parts.result.now c.args.hypotheses.now
+    ∙ first_ranking c.args.kind c.args.rules.now c.parts-parts.result.now c.args.hypotheses.now
     c.parts-parts.ensures.parts c.parts-parts.ensures.made c.requires.roots c.requires.fits
     c.in_ok-listed.listed c.in_ok-listed.ensures (not-false c.in_ok-listed.listed.whole
     c.if-not-listed.false) c.in_ok-start.start begun

@@ -17,7 +17,7 @@ returns-then-is_done-clause-tried g t c =
       made = option_map (λ (p : Progress). tt {0}) (c.found.ensures.made i);
       noted = c.found.ensures.noted i;
     })
-    ∙ rounds_end c.args.parts.now c.args.hypotheses.now c.args.left pairs
+    ∙ rounds_end c.args.kind c.args.parts.now c.args.hypotheses.now c.args.left pairs
     c.in_ok-grown.grown.entries.items (c.is_done.ensures.0 c.if-is_done.true)
     (c.in_ok-grown.ensures.pairs ∙ ap (λ m. inside m pairs) c.len.ensures)
 
@@ -33,10 +33,11 @@ returns-then-is_done-clause-made g t c =
 pub returns-then-left-eq0-clause-tried : goal.returns-then-left-eq0-clause-tried
 returns-then-left-eq0-clause-tried g t c =
     let pairs = pairs_open c.args.progress.entries.items in
-    no_round c.args.parts.now c.args.hypotheses.now pairs c.in_ok-grown.grown.entries.items
+    no_round c.args.kind c.args.parts.now c.args.hypotheses.now pairs
+    c.in_ok-grown.grown.entries.items
     (λ none. false≢true (sym c.if-is_done.false ∙ c.is_done.ensures.1 none))
     (c.in_ok-grown.ensures.pairs ∙ ap (λ m. inside m pairs) c.len.ensures)
-    ∙ ap (λ k. ranking_from c.args.parts.now c.args.hypotheses.now k pairs)
+    ∙ ap (λ k. ranking_from c.args.kind c.args.parts.now c.args.hypotheses.now k pairs)
     (sym c.if-left-eq0.true)
 
 pub returns-clause-tried : goal.returns-clause-tried
@@ -49,7 +50,7 @@ returns-clause-tried g t c =
       made = option_map (λ (p : Progress). tt {0}) (c.noted_before.ensures.made i);
       noted = c.noted_before.ensures.noted i;
     })
-    ∙ round_done c.args.parts.now c.args.hypotheses.now k c.args.left pairs
+    ∙ round_done c.args.kind c.args.parts.now c.args.hypotheses.now k c.args.left pairs
     c.in_ok-grown.grown.entries.items one_less
     (λ none. false≢true (sym c.if-is_done.false ∙ c.is_done.ensures.1 none))
     (c.in_ok-grown.ensures.pairs ∙ ap (λ m. inside m pairs) c.len.ensures) c.in_ok-tried.tried.made
@@ -61,7 +62,7 @@ returns-clause-tried g t c =
           c.in_ok-rest.rest.noted;
     })
     (c.in_ok-rest.ensures.tried ∙ ap (λ (p : Progress).
-    ranking_from c.args.parts.now c.args.hypotheses.now k (pairs_open p.entries.items))
+    ranking_from c.args.kind c.args.parts.now c.args.hypotheses.now k (pairs_open p.entries.items))
     c.in-Some.next-is)
 
 pub returns-clause-made : goal.returns-clause-made
@@ -81,7 +82,7 @@ returns-in_default-clause-tried g t c =
     let k = c.args.left - 1 in
     let some = c.if-left-eq0.false in
     let one_less : c.args.left ≡ suc k = omega (arith, some) in
-    round_fails c.args.parts.now c.args.hypotheses.now k c.args.left pairs
+    round_fails c.args.kind c.args.parts.now c.args.hypotheses.now k c.args.left pairs
     c.in_ok-grown.grown.entries.items one_less
     (λ none. false≢true (sym c.if-is_done.false ∙ c.is_done.ensures.1 none))
     (c.in_ok-grown.ensures.pairs ∙ ap (λ m. inside m pairs) c.len.ensures) c.in_ok-tried.tried.made

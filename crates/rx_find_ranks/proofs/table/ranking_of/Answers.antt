@@ -17,7 +17,8 @@ returns-clause-lawful c = λ parts count all.
 pub returns-clause-lower : goal.returns-clause-lower
 returns-clause-lower c = λ pairs split over.
     ap (λ (certs : List PairCert). descent_in
-    (record { columns = length c.args.columns.now; ranks = c.in_ok-ranks.ranks }) true 0 pairs certs)
+    (record { columns = length c.args.columns.now; ranks = c.in_ok-ranks.ranks }) true 0 pairs
+    certs)
     c.in_ok-certs.ensures
     ∙ table_descends (columns_in c.args.columns.now) c.args.symbols
     (record { columns = length c.args.columns.now; ranks = c.in_ok-ranks.ranks })

@@ -15,7 +15,8 @@ decide_listed-requires-clause-over g c =
     subst (λ (ps : List Pair). IsOver (length c.parts-parts.result.now.symbols)
     (edges_of (c.args.first.now ++ ps)))
     (sym c.as_slice-others.ensures)
-    (all_over c.args.rules.now c.args.hypotheses.now c.args.first.now c.requires.listed more
+    (all_over c.args.kind c.args.rules.now c.args.hypotheses.now c.args.first.now c.requires.listed
+    more
     c.in_ok-more.ensures c.parts-parts.result.now c.parts-parts.ensures.parts c.if-more.true
     c.parts-parts.ensures.made c.requires.roots c.requires.fits)
 
@@ -23,14 +24,17 @@ pub returns-then-more-clause-tried : goal.returns-then-more-clause-tried
 returns-then-more-clause-tried g c =
     let more = c.in_ok-more.more in
     subst (λ r. IfOk c.decide_listed.result (λ t. tried_only t ≡ r))
-    (ap (λ (ps : List Pair). ranking_from c.parts-parts.result.now c.args.hypotheses.now 7
+    (ap (λ (ps : List Pair). ranking_from c.args.kind c.parts-parts.result.now c.args.hypotheses.now
+    7
     (c.args.first.now ++ ps)) c.as_slice-others.ensures
-    ∙ all_ranked c.args.rules.now c.args.hypotheses.now c.args.first.now c.requires.listed more
+    ∙ all_ranked c.args.kind c.args.rules.now c.args.hypotheses.now c.args.first.now
+    c.requires.listed more
     c.in_ok-more.ensures c.parts-parts.result.now c.parts-parts.ensures.parts c.if-more.true)
     c.decide_listed.ensures.tried
 
 pub returns-clause-tried : goal.returns-clause-tried
 returns-clause-tried g c =
     c.not_listed.ensures
-    ∙ hypotheses_beyond c.args.rules.now c.args.hypotheses.now c.args.first.now c.requires.listed
+    ∙ hypotheses_beyond c.args.kind c.args.rules.now c.args.hypotheses.now c.args.first.now
+    c.requires.listed
     c.in_ok-more.more c.in_ok-more.ensures c.if-more.false

@@ -9,7 +9,8 @@ use Rattle.rx_rank.specs.declared.fitting.Fit.{Fit}
 use Rattle.rx_has_ranks.proofs.StayingLaws.{over_open}
 use Rattle.rx_has_ranks.proofs.staying.after_fit.Goals as goal
 
-pub returns-in_ok-still_open-in-Some-clause-tried : goal.returns-in_ok-still_open-in-Some-clause-tried
+pub returns-in_ok-still_open-in-Some-clause-tried :
+    goal.returns-in_ok-still_open-in-Some-clause-tried
 returns-in_ok-still_open-in-Some-clause-tried c =
     let pairs = pairs_at c.args.pairs.now in
     let view : Fit → List Pair = λ fit. still_open pairs fit.falls.items in

@@ -19,10 +19,11 @@ returns-in-None-clause-tried g c =
     let name = c.loop-name.name in
     let size = c.len-symbols.ensures in
     let inner = c.loop-name-test.true in
-    left_failed parts hypotheses pairs name c.loop-name.noted (pairs_at c.loop-name.left.items)
+    left_failed c.args.kind parts hypotheses pairs name c.loop-name.noted
+    (pairs_at c.loop-name.left.items)
     c.loop-name.invariant.left (omega (arith, size, inner))
     (option_map (λ v. pairs_at v.items) c.in_ok-tried.tried.made) c.in_ok-tried.tried.noted
-    (c.in_ok-tried.ensures.tried ∙ ap (λ ns. tried_in parts hypotheses ns pairs name)
+    (c.in_ok-tried.ensures.tried ∙ ap (λ ns. tried_in c.args.kind parts hypotheses ns pairs name)
     c.requires.names) (ap (option_map (λ v. pairs_at v.items)) c.in-None.is)
 
 pub loop-name-preserved : goal.loop-name-preserved
@@ -38,10 +39,11 @@ loop-name-preserved g c =
     record {
       solver = c.left_in.ensures.solver;
       left =
-          left_next parts hypotheses pairs name c.loop-name.noted
+          left_next c.args.kind parts hypotheses pairs name c.loop-name.noted
           (pairs_at c.loop-name.left.items) c.loop-name.invariant.left (omega (arith, size, inner))
           (option_map (λ v. pairs_at v.items) c.in_ok-tried.tried.made) c.in_ok-tried.tried.noted
-          (c.in_ok-tried.ensures.tried ∙ ap (λ ns. tried_in parts hypotheses ns pairs name)
+          (c.in_ok-tried.ensures.tried ∙ ap (λ ns. tried_in c.args.kind parts hypotheses ns pairs
+          name)
           c.requires.names) (pairs_at c.in-Some.more.items) (pairs_at c.append.new.self.items)
           (ap (option_map (λ v. pairs_at v.items)) c.in-Some.is)
           (ap pairs_at (c.in_ok-append-in-Some.ensures.items ∙

@@ -7,7 +7,6 @@ use Rattle.rx_solve.specs.Attempts.{first_applying}
 use Rattle.rx_anchors.specs.Choices.{lists_in, products}
 use Rattle.rx_rank.specs.Answers.{IsFirstFit, still_open, tried_as}
 use Rattle.rx_rank.specs.Choices.{all_choices, choosing, plain_choice, raised_choices}
-use Rattle.rx_rank.specs.Ranking.{most_choices}
 use Rattle.rx_rank.specs.declared.fitting.Fit.{Fit}
 use Rattle.rx_rank.proofs.Choosing.{among_plain, among_raised, empty_list, fit_among_more, plain_alone, plain_fits, raised_decide}
 use Rattle.rx_rank.proofs.choice.first_fit.Goals as goal
@@ -15,7 +14,7 @@ use Rattle.rx_rank.proofs.choice.first_fit.Goals as goal
 pub returns-then-is_some-clause-tried : goal.returns-then-is_some-clause-tried
 returns-then-is_some-clause-tried g c =
     let a = c.args in
-    let all = take most_choices (products (lists_in a.lists.now)) in
+    let all = take a.most (products (lists_in a.lists.now)) in
     plain_fits a.infos.now a.pairs.now a.anchors.now a.order.now a.raisable.now all
     (λ fit. still_open a.pairs.now fit.falls.items) c.in_ok-plain.plain.made
     c.in_ok-plain.plain.noted c.in_ok-plain.ensures.tried
@@ -24,7 +23,7 @@ returns-then-is_some-clause-tried g c =
 pub returns-then-is_some-clause-fit : goal.returns-then-is_some-clause-fit
 returns-then-is_some-clause-fit g c =
     let a = c.args in
-    let all = take most_choices (products (lists_in a.lists.now)) in
+    let all = take a.most (products (lists_in a.lists.now)) in
     fit_among_more a.infos.now a.pairs.now a.anchors.now a.order.now (map plain_choice all)
     (all_choices a.raisable.now all) c.in_ok-plain.plain.made (among_plain a.raisable.now all)
     c.in_ok-plain.ensures.fit
@@ -32,7 +31,7 @@ returns-then-is_some-clause-fit g c =
 pub returns-then-is_empty-clause-tried : goal.returns-then-is_empty-clause-tried
 returns-then-is_empty-clause-tried g c =
     let a = c.args in
-    let all = take most_choices (products (lists_in a.lists.now)) in
+    let all = take a.most (products (lists_in a.lists.now)) in
     let try_it = choosing a.infos.now a.pairs.now a.anchors.now a.order.now in
     let empty : a.raisable.now ≡ [] =
     empty_list a.raisable.now (sym c.is_empty.ensures ∙ c.if-is_empty.true) in
@@ -43,7 +42,7 @@ returns-then-is_empty-clause-tried g c =
 pub returns-then-is_empty-clause-fit : goal.returns-then-is_empty-clause-fit
 returns-then-is_empty-clause-fit g c =
     let a = c.args in
-    let all = take most_choices (products (lists_in a.lists.now)) in
+    let all = take a.most (products (lists_in a.lists.now)) in
     fit_among_more a.infos.now a.pairs.now a.anchors.now a.order.now (map plain_choice all)
     (all_choices a.raisable.now all) c.in_ok-plain.plain.made (among_plain a.raisable.now all)
     c.in_ok-plain.ensures.fit
@@ -51,7 +50,7 @@ returns-then-is_empty-clause-fit g c =
 pub returns-clause-tried : goal.returns-clause-tried
 returns-clause-tried g c =
     let a = c.args in
-    let all = take most_choices (products (lists_in a.lists.now)) in
+    let all = take a.most (products (lists_in a.lists.now)) in
     let view : Fit → List Pair = λ fit. still_open a.pairs.now fit.falls.items in
     let raised = c.in_ok-raised.raised in
     let tried : record { made = option_map view raised.made; noted = raised.noted } ≡
@@ -72,7 +71,7 @@ returns-clause-tried g c =
 pub returns-clause-fit : goal.returns-clause-fit
 returns-clause-fit g c =
     let a = c.args in
-    let all = take most_choices (products (lists_in a.lists.now)) in
+    let all = take a.most (products (lists_in a.lists.now)) in
     let raised = c.in_ok-raised.raised in
     let first = subst (λ (qs : List Pair). IfSome raised.made (IsFirstFit a.infos.now qs
     a.anchors.now a.order.now (flat_map (raised_choices a.raisable.now) all)))

@@ -4,7 +4,6 @@ use Rattle.rx_solve.specs.Answers.{IsSolver}
 use Rattle.rx_solve.specs.Attempts.{first_applying}
 use Rattle.rx_anchors.specs.Choices.{lists_in, products}
 use Rattle.rx_rank.specs.Choices.{choosing, plain_choice}
-use Rattle.rx_rank.specs.Ranking.{most_choices}
 use Rattle.rx_rank.specs.Tries.{noting}
 use Rattle.rx_rank.proofs.choice.first_plain.Given as goal
 
@@ -14,7 +13,7 @@ invariant-loop-at g l = record {
   same : l.pairs ≡ l.fn.pairs;
   decides :
       noting l.noted (first_applying (map (choosing l.infos l.fn.pairs l.anchors l.order)
-      (drop l.at (map plain_choice (take most_choices (products (lists_in l.lists)))))))
+      (drop l.at (map plain_choice (take l.most (products (lists_in l.lists)))))))
       ≡ first_applying (map (choosing l.infos l.fn.pairs l.anchors l.order)
-      (map plain_choice (take most_choices (products (lists_in l.lists)))));
+      (map plain_choice (take l.most (products (lists_in l.lists)))));
 }

@@ -9,7 +9,6 @@ use Rattle.rx_anchors.specs.Choices.{lists_in, products}
 use Rattle.rx_anchors.specs.Values.{polys_at}
 use Rattle.rx_rank.specs.Answers.{IsFirstFit, still_open, tried_as}
 use Rattle.rx_rank.specs.Choices.{choosing, raised_choices}
-use Rattle.rx_rank.specs.Ranking.{most_choices}
 use Rattle.rx_rank.specs.declared.fitting.Fit.{Fit}
 use Rattle.rx_rank.proofs.Choosing.{among_each, choice_fits, first_of_each, fit_among_more, later_choices, no_choice, taken_past, taken_place}
 use Rattle.rx_rank.proofs.choice.first_raised.Goals as goal
@@ -18,7 +17,7 @@ pub loop-at-init : goal.loop-at-init
 loop-at-init g c =
     let a = c.args in
     let symbols = a.raisable.now in
-    let all = take most_choices (products (lists_in a.lists.now)) in
+    let all = take a.most (products (lists_in a.lists.now)) in
     let try_it = choosing a.infos.now a.pairs.now a.anchors.now a.order.now in
     let each : List Body → Tried (List Pair) =
     λ polys. first_applying (map try_it (raised_choices symbols polys)) in
@@ -33,15 +32,15 @@ pub returns-in-None-clause-tried : goal.returns-in-None-clause-tried
 returns-in-None-clause-tried g c =
     let a = c.args in
     let symbols = a.raisable.now in
-    let all = take most_choices (products (lists_in a.lists.now)) in
+    let all = take a.most (products (lists_in a.lists.now)) in
     let try_it = choosing a.infos.now a.pairs.now a.anchors.now a.order.now in
     let each : List Body → Tried (List Pair) =
     λ polys. first_applying (map try_it (raised_choices symbols polys)) in
     let whole = first_applying (map try_it (flat_map (raised_choices symbols) all)) in
     let at = c.loop-at.at in
-    let below : at < most_choices = omega (arith, c.loop-at-test.true) in
+    let below : at < a.most = omega (arith, c.loop-at-test.true) in
     let none : slice_get all at ≡ None =
-    taken_place most_choices (products (lists_in a.lists.now)) at below
+    taken_place a.most (products (lists_in a.lists.now)) at below
     ∙ sym (sym (ap (option_map (λ v. polys_at v.items)) c.in-None.is) ∙ c.in_ok-choice.ensures) in
     no_choice each all at c.loop-at.noted whole c.loop-at.invariant.decides none
 
@@ -49,27 +48,27 @@ pub returns-clause-tried : goal.returns-clause-tried
 returns-clause-tried g c =
     let a = c.args in
     let symbols = a.raisable.now in
-    let all = take most_choices (products (lists_in a.lists.now)) in
+    let all = take a.most (products (lists_in a.lists.now)) in
     let try_it = choosing a.infos.now a.pairs.now a.anchors.now a.order.now in
     let each : List Body → Tried (List Pair) =
     λ polys. first_applying (map try_it (raised_choices symbols polys)) in
     let whole = first_applying (map try_it (flat_map (raised_choices symbols) all)) in
     let at = c.loop-at.at in
-    let past : most_choices ≤ at = omega (arith, c.loop-at-test.false) in
+    let past : a.most ≤ at = omega (arith, c.loop-at-test.false) in
     no_choice each all at c.loop-at.noted whole c.loop-at.invariant.decides
-    (taken_past most_choices (products (lists_in a.lists.now)) at past)
+    (taken_past a.most (products (lists_in a.lists.now)) at past)
 
 pub returns-then-is_some-clause-fit : goal.returns-then-is_some-clause-fit
 returns-then-is_some-clause-fit g c =
     let a = c.args in
     let symbols = a.raisable.now in
-    let all = take most_choices (products (lists_in a.lists.now)) in
+    let all = take a.most (products (lists_in a.lists.now)) in
     let at = c.loop-at.at in
     let made = c.in_ok-attempt.attempt.made in
     let choice = polys_at c.in-Some.choice.items in
-    let below : at < most_choices = omega (arith, c.loop-at-test.true) in
+    let below : at < a.most = omega (arith, c.loop-at-test.true) in
     let there : slice_get all at ≡ Some choice =
-    taken_place most_choices (products (lists_in a.lists.now)) at below
+    taken_place a.most (products (lists_in a.lists.now)) at below
     ∙ sym (sym (ap (option_map (λ v. polys_at v.items)) c.in-Some.is) ∙ c.in_ok-choice.ensures) in
     let here = subst (λ qs. IfSome made (IsFirstFit a.infos.now qs a.anchors.now a.order.now
     (raised_choices symbols (polys_at c.as_slice-chosen.result.now)))) c.loop-at.invariant.same
@@ -84,7 +83,7 @@ pub returns-then-is_some-clause-tried : goal.returns-then-is_some-clause-tried
 returns-then-is_some-clause-tried g c =
     let a = c.args in
     let symbols = a.raisable.now in
-    let all = take most_choices (products (lists_in a.lists.now)) in
+    let all = take a.most (products (lists_in a.lists.now)) in
     let try_it = choosing a.infos.now a.pairs.now a.anchors.now a.order.now in
     let each : List Body → Tried (List Pair) =
     λ polys. first_applying (map try_it (raised_choices symbols polys)) in
@@ -92,9 +91,9 @@ returns-then-is_some-clause-tried g c =
     let at = c.loop-at.at in
     let made = c.in_ok-attempt.attempt.made in
     let choice = polys_at c.in-Some.choice.items in
-    let below : at < most_choices = omega (arith, c.loop-at-test.true) in
+    let below : at < a.most = omega (arith, c.loop-at-test.true) in
     let there : slice_get all at ≡ Some choice =
-    taken_place most_choices (products (lists_in a.lists.now)) at below
+    taken_place a.most (products (lists_in a.lists.now)) at below
     ∙ sym (sym (ap (option_map (λ v. polys_at v.items)) c.in-Some.is) ∙ c.in_ok-choice.ensures) in
     let view : Fit → List Pair = λ fit. still_open a.pairs.now fit.falls.items in
     let before = c.loop-at.noted in
@@ -114,7 +113,7 @@ pub loop-at-preserved : goal.loop-at-preserved
 loop-at-preserved g c =
     let a = c.args in
     let symbols = a.raisable.now in
-    let all = take most_choices (products (lists_in a.lists.now)) in
+    let all = take a.most (products (lists_in a.lists.now)) in
     let try_it = choosing a.infos.now a.pairs.now a.anchors.now a.order.now in
     let each : List Body → Tried (List Pair) =
     λ polys. first_applying (map try_it (raised_choices symbols polys)) in
@@ -122,9 +121,9 @@ loop-at-preserved g c =
     let at = c.loop-at.at in
     let made = c.in_ok-attempt.attempt.made in
     let choice = polys_at c.in-Some.choice.items in
-    let below : at < most_choices = omega (arith, c.loop-at-test.true) in
+    let below : at < a.most = omega (arith, c.loop-at-test.true) in
     let there : slice_get all at ≡ Some choice =
-    taken_place most_choices (products (lists_in a.lists.now)) at below
+    taken_place a.most (products (lists_in a.lists.now)) at below
     ∙ sym (sym (ap (option_map (λ v. polys_at v.items)) c.in-Some.is) ∙ c.in_ok-choice.ensures) in
     let view : Fit → List Pair = λ fit. still_open a.pairs.now fit.falls.items in
     let before = c.loop-at.noted in

@@ -5,7 +5,6 @@ use Rattle.rx_solve.specs.Answers.{IsSolver}
 use Rattle.rx_solve.specs.Attempts.{first_applying}
 use Rattle.rx_anchors.specs.Choices.{lists_in, products}
 use Rattle.rx_rank.specs.Choices.{choosing, raised_choices}
-use Rattle.rx_rank.specs.Ranking.{most_choices}
 use Rattle.rx_rank.specs.Tries.{noting}
 use Rattle.rx_rank.proofs.choice.first_raised.Given as goal
 
@@ -16,7 +15,7 @@ invariant-loop-at g l = record {
   decides :
       noting l.noted (first_applying (map (λ polys. first_applying
       (map (choosing l.infos l.fn.pairs l.anchors l.order) (raised_choices l.raisable polys)))
-      (drop l.at (take most_choices (products (lists_in l.lists))))))
+      (drop l.at (take l.most (products (lists_in l.lists))))))
       ≡ first_applying (map (choosing l.infos l.fn.pairs l.anchors l.order)
-      (flat_map (raised_choices l.raisable) (take most_choices (products (lists_in l.lists)))));
+      (flat_map (raised_choices l.raisable) (take l.most (products (lists_in l.lists)))));
 }

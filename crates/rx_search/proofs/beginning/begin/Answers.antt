@@ -1,24 +1,28 @@
--- Whether the rules alone have ranks decides first.
-use Rattle.std.proofs.Common.{Ok, [], subst}
-use Rattle.rx_cert.specs.Findings.{Beyond, No, Yes}
-use Rattle.rx_has_ranks.specs.HasRanks.{HasRanksAnswer}
-use Rattle.rx_rank.specs.Ranking.{ranked}
-use Rattle.rx_search.proofs.BegunLaws.{begins}
+-- Wider domains are looked for where the plain ranking begins nowhere and nothing was noted.
+use Rattle.std.proofs.Common.{subst}
+use Rattle.rx_search.specs.Begun.{IsStatedBegun}
+use Rattle.rx_search.specs.declared.beginning.Beginning.TheVariants as begun
+use Rattle.rx_search.proofs.BegunLaws.{begun_noted, begun_bare, begun_within}
 use Rattle.rx_search.proofs.beginning.begin.Goals as goal
 
-pub returns-in-Ok-true-clause-begun : goal.returns-in-Ok-true-clause-begun
-returns-in-Ok-true-clause-begun g c =
-    let yes = subst (λ b. HasRanksAnswer (ranked c.args.rules.now []) (Ok b))
-    c.in-Ok-true.field-0-test c.in-Ok-true.ensures.answer in
-    (begins c.args.rules.now c.args.goal.now Yes yes, yes)
+pub returns-in-Bare-clause-begun : goal.returns-in-Bare-clause-begun
+returns-in-Bare-clause-begun g c =
+    let rules = c.args.rules.now in
+    let goal = c.args.goal.now in
+    begun_bare rules goal
+    (subst (IsStatedBegun rules goal) c.in-Bare.is c.in_ok-begin_plain.ensures.begun)
 
-pub begin_inside-requires-clause-begun : goal.begin_inside-requires-clause-begun
-begin_inside-requires-clause-begun g c =
-    begins c.args.rules.now c.args.goal.now No
-    (subst (λ b. HasRanksAnswer (ranked c.args.rules.now []) (Ok b))
-    c.in-Ok-false.field-0-test c.in-Ok-false.ensures.answer)
+pub returns-in-Inside-clause-begun : goal.returns-in-Inside-clause-begun
+returns-in-Inside-clause-begun g c =
+    let rules = c.args.rules.now in
+    let goal = c.args.goal.now in
+    begun_within rules goal c.in-Inside.inside
+    (subst (IsStatedBegun rules goal) c.in-Inside.is c.in_ok-begin_plain.ensures.begun)
 
-pub begin_inside-requires-in-Err-Large-clause-begun : goal.begin_inside-requires-in-Err-Large-clause-begun
-begin_inside-requires-in-Err-Large-clause-begun g c =
-    begins c.args.rules.now c.args.goal.now Beyond
-    (c.in-Err-Large.ensures.answer c.in-Err-Large.field-0-is)
+pub returns-in-Unranked-true-clause-begun : goal.returns-in-Unranked-true-clause-begun
+returns-in-Unranked-true-clause-begun g c =
+    let rules = c.args.rules.now in
+    let goal = c.args.goal.now in
+    begun_noted rules goal
+    (subst (λ noted. IsStatedBegun rules goal (begun.Unranked noted)) c.in-Unranked-true.noted-test
+    (subst (IsStatedBegun rules goal) c.in-Unranked-true.is c.in_ok-begin_plain.ensures.begun))

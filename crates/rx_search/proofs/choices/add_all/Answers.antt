@@ -8,20 +8,23 @@ use Rattle.rx_search.proofs.choices.add_all.Goals as goal
 
 pub add_known-requires-clause-right : goal.add_known-requires-clause-right
 add_known-requires-clause-right g c =
-    subst (IsRightAt c.args.rules.now c.args.node.now.state) (sym c.one-item.is)
+    let s = c.args.space.now in
+    subst (IsRightAt s.rules.now c.args.node.now.state) (sym c.one-item.is)
     (c.requires.right c.loop-one.one-index c.one-item.result c.loop-one-test.true)
 
 pub loop-one-init : goal.loop-one-init
-loop-one-init g c = record {
-  solver = c.requires.solver;
-  are = no_choices c.args.node.now _ c.new-found.ensures;
-  nodes = λ goal is. no_nodes (IsNode c.args.rules.now goal) _ c.new-found.ensures;
-}
+loop-one-init g c =
+    let s = c.args.space.now in record {
+      solver = c.requires.solver;
+      are = no_choices c.args.node.now _ c.new-found.ensures;
+      nodes = λ goal is. no_nodes (IsNode s.kind s.rules.now goal) _ c.new-found.ensures;
+    }
 
 pub loop-one-preserved : goal.loop-one-preserved
 loop-one-preserved g c =
+    let s = c.args.space.now in
     let a = c.args in
-    let chosen = chosen_by a.rules.now a.node.now.state in
+    let chosen = chosen_by s.kind s.rules.now a.node.now.state in
     record {
       solver = c.in_ok-add_known.ensures.solver;
       are =
@@ -36,8 +39,9 @@ loop-one-preserved g c =
 
 pub returns-clause-choices : goal.returns-clause-choices
 returns-clause-choices g c =
+    let s = c.args.space.now in
     let a = c.args in
     subst
-    (λ ks. AreChoices a.node.now (map (chosen_by a.rules.now a.node.now.state) ks)
+    (λ ks. AreChoices a.node.now (map (chosen_by s.kind s.rules.now a.node.now.state) ks)
     c.loop-one.found)
     (take_all c.loop-one.one-index a.known.now c.loop-one-test.false) c.loop-one.invariant.are

@@ -9,7 +9,8 @@ use Rattle.rx_search.proofs.choices.add_all.Given as goal
 abbrev pub invariant-loop-one : goal.invariant-loop-one
 invariant-loop-one g l = record {
   solver : IsSolver g.S.FnMut l.solve;
-  are : AreChoices l.node (map (chosen_by l.rules l.node.state) (take l.one-index l.known)) l.found;
-  nodes : (goal : Equation) → IsNode l.rules goal l.node →
-      All (λ c. IsNode l.rules goal c.node) l.found.choices;
+  are : AreChoices l.node (map (chosen_by l.space.kind l.space.rules.now l.node.state)
+      (take l.one-index l.known)) l.found;
+  nodes : (goal : Equation) → IsNode l.space.kind l.space.rules.now goal l.node →
+      All (λ c. IsNode l.space.kind l.space.rules.now goal c.node) l.found.choices;
 }

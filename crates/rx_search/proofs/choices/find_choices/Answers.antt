@@ -11,25 +11,29 @@ use Rattle.rx_search.proofs.choices.find_choices.Goals as goal
 
 pub add_all-found-requires-clause-right : goal.add_all-found-requires-clause-right
 add_all-found-requires-clause-right g c =
-    subst (All (IsRightAt c.args.rules.now c.args.node.now.state))
+    let s = c.args.space.now in
+    subst (All (IsRightAt s.rules.now c.args.node.now.state))
     (sym (c.as_slice-all.ensures ∙ c.get.ensures))
-    (right_at c.args.rules.now c.args.node.now.state c.args.first c.in_ok-choices.choices
+    (right_at s.kind s.rules.now c.args.node.now.state c.args.first c.in_ok-choices.choices
     c.requires.first c.in_ok-choices.ensures.right)
 
 pub returns-clause-choices : goal.returns-clause-choices
 returns-clause-choices g c =
-    let parts = c.args.rules.now in
+    let s = c.args.space.now in
+    let kind = s.kind in
+    let parts = s.rules.now in
     let node = c.args.node.now in
     subst (λ (r : Result Choices NoMemory). IfOk r (AreChoices node
-    (chosen_at parts node.state c.args.first))) (sym c.dropped.ensures)
+    (chosen_at kind parts node.state c.args.first))) (sym c.dropped.ensures)
     (subst (λ cs. IfOk c.add_all-found.result (AreChoices node cs))
-    (ap (map (chosen_by parts node.state)) (c.as_slice-all.ensures ∙ c.get.ensures)
-    ∙ chosen_known parts node.state c.args.first c.in_ok-choices.choices c.requires.first
+    (ap (map (chosen_by kind parts node.state)) (c.as_slice-all.ensures ∙ c.get.ensures)
+    ∙ chosen_known kind parts node.state c.args.first c.in_ok-choices.choices c.requires.first
     c.in_ok-choices.ensures.right)
     c.add_all-found.ensures.choices)
 
 pub returns-clause-nodes : goal.returns-clause-nodes
 returns-clause-nodes g c = λ goal node.
+    let s = c.args.space.now in
     subst (λ (r : Result Choices NoMemory). IfOk r (λ f.
-    All (λ x. IsNode c.args.rules.now goal x.node) f.choices)) (sym c.dropped.ensures)
+    All (λ x. IsNode s.kind s.rules.now goal x.node) f.choices)) (sym c.dropped.ensures)
     (c.add_all-found.ensures.nodes goal node)

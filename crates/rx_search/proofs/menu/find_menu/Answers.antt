@@ -7,8 +7,9 @@ use Rattle.rx_search.proofs.menu.find_menu.Goals as goal
 
 pub returns-in_default-clause-menu : goal.returns-in_default-clause-menu
 returns-in_default-clause-menu g c =
+    let s = c.args.space.now in
     (λ i. record { choices = map (seen_choice node_of) (c.new.ensures i); note = None })
-    ∙ menu_over c.args.rules.now c.args.node.now
+    ∙ menu_over s.kind s.rules.now c.args.node.now
     (sym c.in_ok-first.ensures ∙ c.in_default.is)
 
 pub find_choices-requires-clause-first : goal.find_choices-requires-clause-first
@@ -17,7 +18,8 @@ find_choices-requires-clause-first g c =
 
 pub returns-clause-menu : goal.returns-clause-menu
 returns-clause-menu g c =
-    menu_found c.args.rules.now c.args.node.now c.in-Some.first c.in_ok-found.found
+    let s = c.args.space.now in
+    menu_found s.kind s.rules.now c.args.node.now c.in-Some.first c.in_ok-found.found
     c.in_ok-note.note
     (sym c.in_ok-first.ensures ∙ c.in-Some.is) c.in_ok-found.ensures.choices
     c.in_ok-note.ensures

@@ -23,10 +23,11 @@ returns-in-Ok-clause-settled g c =
     c.settled_by.ensures
 
 pub returns-in-Ok-clause-node : goal.returns-in-Ok-clause-node
-returns-in-Ok-clause-node g c = λ goal node.
+returns-in-Ok-clause-node g c = λ kind goal node.
     let parts = c.args.rules.now in
     IfOk-weaker c.settled_by.result _ _
-    (λ s same. subst (λ (s : Settled Node (List Row)). IsNode parts goal s.node) (sym same)
-    (settled_node parts c.args.node c.settle.new.state c.in-Ok.found c.in-Ok.ensures.settled goal
+    (λ s same. subst (λ (s : Settled Node (List Row)). IsNode kind parts goal s.node) (sym same)
+    (settled_node parts c.args.node c.settle.new.state c.in-Ok.found c.in-Ok.ensures.settled kind
+    goal
     (c.args.node.steps ++ c.in-Ok.found.steps) refl c.in-Ok.ensures.hypotheses node))
     c.settled_by.ensures

@@ -17,14 +17,16 @@ ranks_of-requires-clause-ranked g c = let (goal, proof) = c.requires.proved in p
 
 pub ranks_of-requires-clause-roots : goal.ranks_of-requires-clause-roots
 ranks_of-requires-clause-roots g c =
+    let s = c.args.space.now in
     let (goal, proof) = c.requires.proved in
-    reached_rooted c.args.rules.now goal c.args.steps.now
+    reached_rooted s.rules.now goal c.args.steps.now
     (joins.finished c.args.hypotheses.now) proof.reached
 
 pub ranks_of-requires-clause-fits : goal.ranks_of-requires-clause-fits
 ranks_of-requires-clause-fits g c =
+    let s = c.args.space.now in
     let (goal, proof) = c.requires.proved in
-    reached_fits c.args.rules.now goal c.args.steps.now
+    reached_fits s.rules.now goal c.args.steps.now
     (joins.finished c.args.hypotheses.now) proof.reached
 
 pub returns-in-Ok-clause-steps : goal.returns-in-Ok-clause-steps
@@ -34,10 +36,11 @@ returns-in-Ok-clause-steps g c =
 
 pub returns-in-Ok-clause-accepted : goal.returns-in-Ok-clause-accepted
 returns-in-Ok-clause-accepted g c = λ goal proof.
-    IfOk-weaker c.log_with.result _ (λ (log : Log). verdict_over c.args.rules.now goal log ≡ Accepted)
-    (λ log same. accepted c.args.rules.now goal c.args.steps.now
+    let s = c.args.space.now in
+    IfOk-weaker c.log_with.result _ (λ (log : Log). verdict_over s.rules.now goal log ≡ Accepted)
+    (λ log same. accepted s.kind s.rules.now goal c.args.steps.now
     c.args.hypotheses.now log c.in-Ok.ranking proof
-    (subst (λ lists. covering c.args.rules.now lists ≡ Covers)
+    (subst (λ lists. covering s.rules.now lists ≡ Covers)
     (sym (ap (λ (log : Log). log.covers) same)) c.in_ok-covers.ensures.covers)
     (ap (λ (log : Log). log.steps) same) (ap (λ (log : Log). log.table) same)
     (ap (λ (log : Log). log.pairs) same) c.in-Ok.ensures.lowers)
@@ -50,9 +53,10 @@ returns-in-Ok-clause-bare g c =
 
 pub returns-in-Ok-clause-shallow : goal.returns-in-Ok-clause-shallow
 returns-in-Ok-clause-shallow g c =
+    let s = c.args.space.now in
     let (goal, proof) = c.requires.proved in
     IfOk-weaker c.log_with.result _ (λ (log : Log). is_shallow_log log ≡ true)
-    (λ log same. log_shallow c.args.rules.now log c.in_ok-covers.covers c.args.steps.now
+    (λ log same. log_shallow s.rules.now log c.in_ok-covers.covers c.args.steps.now
     c.in-Ok.ranking.certs (ap (λ (log : Log). log.domains) same)
     (ap (λ (log : Log). log.covers) same)
     (ap (λ (log : Log). log.steps) same) (ap (λ (log : Log). log.pairs) same)

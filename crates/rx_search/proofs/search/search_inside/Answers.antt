@@ -31,5 +31,5 @@ returns-in-Ok-clause-columns g c =
 pub returns-in-Err-clause-ends : goal.returns-in-Err-clause-ends
 returns-in-Err-clause-ends g c =
     subst (IsEnd c.args.depth c.args.budget
-    (visited c.args.inside.rules c.args.goal.now c.args.depth c.args.budget))
+    (visited c.args.inside.kind c.args.inside.rules c.args.goal.now c.args.depth c.args.budget))
     (sym c.dropped.ensures) c.in-Err.ensures.ends

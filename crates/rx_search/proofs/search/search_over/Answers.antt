@@ -9,20 +9,22 @@ use Rattle.rx_search.proofs.Closing.{closed_goals, closed_node, closed_steps, no
 use Rattle.rx_search.proofs.search.search_over.Goals as goal
 
 pub log_of-requires-clause-proved : goal.log_of-requires-clause-proved
-log_of-requires-clause-proved g c = (
-  c.args.goal.now,
-  node_proved c.args.rules.now c.args.goal.now c.in-Closed.node c.as_slice-steps.result.now
-      c.hypotheses.result.now
-      (closed_node (IsNode c.args.rules.now c.args.goal.now) c.in_ok-outcome.outcome
-      c.in-Closed.node c.in-Closed.is c.in_ok-outcome.ensures.node)
-      (closed_goals c.args.rules.now c.args.depth c.args.budget (start c.args.goal.now)
-      c.in_ok-outcome.outcome c.in-Closed.node c.in_ok-outcome.ensures.outcome c.in-Closed.is)
-      c.as_slice-steps.ensures c.hypotheses.ensures,
-)
+log_of-requires-clause-proved g c =
+    let s = c.args.space.now in (
+      c.args.goal.now,
+      node_proved s.kind s.rules.now c.args.goal.now c.in-Closed.node c.as_slice-steps.result.now
+          c.hypotheses.result.now
+          (closed_node (IsNode s.kind s.rules.now c.args.goal.now) c.in_ok-outcome.outcome
+          c.in-Closed.node c.in-Closed.is c.in_ok-outcome.ensures.node)
+          (closed_goals s.kind s.rules.now c.args.depth c.args.budget (start c.args.goal.now)
+          c.in_ok-outcome.outcome c.in-Closed.node c.in_ok-outcome.ensures.outcome c.in-Closed.is)
+          c.as_slice-steps.ensures c.hypotheses.ensures,
+    )
 
 pub returns-in-Ok-clause-steps : goal.returns-in-Ok-clause-steps
 returns-in-Ok-clause-steps g c =
-    closed_steps c.args.rules.now c.args.depth c.args.budget (start c.args.goal.now)
+    let s = c.args.space.now in
+    closed_steps s.kind s.rules.now c.args.depth c.args.budget (start c.args.goal.now)
     c.in_ok-outcome.outcome c.in-Closed.node c.dropped.result.steps
     c.in_ok-outcome.ensures.outcome c.in-Closed.is
     (ap (λ (log : Log). log.steps) c.dropped.ensures ∙ c.in-Ok.ensures.steps ∙
@@ -30,14 +32,15 @@ returns-in-Ok-clause-steps g c =
 
 pub returns-in-Ok-clause-accepted : goal.returns-in-Ok-clause-accepted
 returns-in-Ok-clause-accepted g c =
-    subst (λ (log : Log). verdict_over c.args.rules.now c.args.goal.now log ≡ Accepted)
+    let s = c.args.space.now in
+    subst (λ (log : Log). verdict_over s.rules.now c.args.goal.now log ≡ Accepted)
     (sym c.dropped.ensures)
     (c.in-Ok.ensures.accepted c.args.goal.now
-    (node_proved c.args.rules.now c.args.goal.now c.in-Closed.node c.as_slice-steps.result.now
+    (node_proved s.kind s.rules.now c.args.goal.now c.in-Closed.node c.as_slice-steps.result.now
     c.hypotheses.result.now
-    (closed_node (IsNode c.args.rules.now c.args.goal.now) c.in_ok-outcome.outcome
+    (closed_node (IsNode s.kind s.rules.now c.args.goal.now) c.in_ok-outcome.outcome
     c.in-Closed.node c.in-Closed.is c.in_ok-outcome.ensures.node)
-    (closed_goals c.args.rules.now c.args.depth c.args.budget (start c.args.goal.now)
+    (closed_goals s.kind s.rules.now c.args.depth c.args.budget (start c.args.goal.now)
     c.in_ok-outcome.outcome c.in-Closed.node c.in_ok-outcome.ensures.outcome c.in-Closed.is)
     c.as_slice-steps.ensures c.hypotheses.ensures))
 
@@ -46,4 +49,5 @@ returns-in-Ok-clause-columns g c =
     subst (λ (log : Log). HasColumns log.table) (sym c.dropped.ensures) c.in-Ok.ensures.columns
 
 pub returns-in-Ok-clause-bare : goal.returns-in-Ok-clause-bare
-returns-in-Ok-clause-bare g c = ap (λ (log : Log). log.domains) c.dropped.ensures ∙ c.in-Ok.ensures.bare
+returns-in-Ok-clause-bare g c =
+    ap (λ (log : Log). log.domains) c.dropped.ensures ∙ c.in-Ok.ensures.bare

@@ -4,8 +4,9 @@ use Rattle.std.proofs.lemmas.Result.{IfOk-weaker}
 use Rattle.std.specs.Prelude.{IfErr, IfOk}
 use Rattle.rx_log.specs.declared.log.Log.{Log}
 use Rattle.rx_moves.specs.Moves.{move_of}
-use Rattle.rx_search.specs.Beginning.{Over, Unranked, beginning}
-use Rattle.rx_search.specs.Begun.{IsBegun, rows_of}
+use Rattle.rx_rank.specs.declared.kind.RankingKind.TheVariants.{Plain}
+use Rattle.rx_search.specs.Beginning.{Over, Unranked}
+use Rattle.rx_search.specs.Begun.{BeginsOver, IsBegun, rows_of}
 use Rattle.rx_search.specs.Ends.{IsEnd}
 use Rattle.rx_search.specs.Search.{Closed}
 use Rattle.rx_search.proofs.BegunLaws.{fits_inside, searched_at, searched_inside}
@@ -16,37 +17,40 @@ use Rattle.rx_search.proofs.search.search_with.Goals as goal
 
 pub search_over-requires-clause-ready : goal.search_over-requires-clause-ready
 search_over-requires-clause-ready g c =
-    let is = subst (IsBegun c.args.rules.now c.args.goal.now) c.in-Plain.is
+    let is = subst (IsBegun c.args.rules.now c.args.goal.now) c.in-Bare.is
     c.in_ok-begun.ensures.begun in
     record { coverable = c.requires.coverable; ranked = is.1 }
 
-pub returns-in-Plain-clause-steps : goal.returns-in-Plain-clause-steps
-returns-in-Plain-clause-steps g c =
-    let is = subst (IsBegun c.args.rules.now c.args.goal.now) c.in-Plain.is
+pub returns-in-Bare-clause-steps : goal.returns-in-Bare-clause-steps
+returns-in-Bare-clause-steps g c =
+    let is = subst (IsBegun c.args.rules.now c.args.goal.now) c.in-Bare.is
     c.in_ok-begun.ensures.begun in
     subst (λ s. IfOk c.search_over.result (λ (log : Log). s ≡ Closed (map move_of log.steps)))
-    (sym (searched_at c.args.rules.now c.args.goal.now (Over None) c.args.depth c.args.budget is.0))
+    (sym (searched_at c.args.rules.now c.args.goal.now
+    (Over Plain None) c.args.depth c.args.budget is.0))
     c.search_over.ensures.steps
 
-pub returns-in-Plain-clause-accepted : goal.returns-in-Plain-clause-accepted
-returns-in-Plain-clause-accepted g c =
+pub returns-in-Bare-clause-accepted : goal.returns-in-Bare-clause-accepted
+returns-in-Bare-clause-accepted g c =
     bare_accepted c.args.rules.now c.args.goal.now c.search_over.result
     c.search_over.ensures.accepted c.search_over.ensures.bare
 
-pub returns-in-Plain-clause-domains : goal.returns-in-Plain-clause-domains
-returns-in-Plain-clause-domains g c =
-    let is = subst (IsBegun c.args.rules.now c.args.goal.now) c.in-Plain.is
+pub returns-in-Bare-clause-domains : goal.returns-in-Bare-clause-domains
+returns-in-Bare-clause-domains g c =
+    let is = subst (IsBegun c.args.rules.now c.args.goal.now) c.in-Bare.is
     c.in_ok-begun.ensures.begun in
     IfOk-weaker c.search_over.result _
-    (λ (log : Log). beginning c.args.rules.now c.args.goal.now ≡ Over (rows_of log.domains))
-    (λ log none. is.0 ∙ ap (λ d. Over (rows_of d)) (sym none)) c.search_over.ensures.bare
+    (λ (log : Log). BeginsOver c.args.rules.now c.args.goal.now (rows_of log.domains))
+    (λ log none. (Plain, is.0 ∙ ap (λ d. Over Plain (rows_of d)) (sym none)))
+    c.search_over.ensures.bare
 
-pub returns-in-Plain-clause-ends : goal.returns-in-Plain-clause-ends
-returns-in-Plain-clause-ends g c =
-    let is = subst (IsBegun c.args.rules.now c.args.goal.now) c.in-Plain.is
+pub returns-in-Bare-clause-ends : goal.returns-in-Bare-clause-ends
+returns-in-Bare-clause-ends g c =
+    let is = subst (IsBegun c.args.rules.now c.args.goal.now) c.in-Bare.is
     c.in_ok-begun.ensures.begun in
     subst (λ s. IfErr c.search_over.result (IsEnd c.args.depth c.args.budget s))
-    (sym (searched_at c.args.rules.now c.args.goal.now (Over None) c.args.depth c.args.budget is.0))
+    (sym (searched_at c.args.rules.now c.args.goal.now
+    (Over Plain None) c.args.depth c.args.budget is.0))
     c.search_over.ensures.ends
 
 -- ---- inside domains
@@ -86,8 +90,12 @@ returns-in-Inside-clause-domains g c =
     let is = subst (IsBegun c.args.rules.now c.args.goal.now) c.in-Inside.is
     c.in_ok-begun.ensures.begun in
     IfOk-weaker c.search_inside.result _
-    (λ (log : Log). beginning c.args.rules.now c.args.goal.now ≡ Over (rows_of log.domains))
-    (λ log same. is.0 ∙ ap (λ d. Over (rows_of d)) (sym same)) c.search_inside.ensures.domains
+    (λ (log : Log). BeginsOver c.args.rules.now c.args.goal.now (rows_of log.domains))
+    (λ log same. (
+      c.in-Inside.inside.kind,
+      is.0 ∙ ap (λ d. Over c.in-Inside.inside.kind (rows_of d)) (sym same),
+    ))
+    c.search_inside.ensures.domains
 
 pub returns-in-Inside-clause-shallow : goal.returns-in-Inside-clause-shallow
 returns-in-Inside-clause-shallow g c =

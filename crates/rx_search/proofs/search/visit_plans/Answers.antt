@@ -4,15 +4,17 @@ use Rattle.rx_search.proofs.Rooted.{start_is}
 use Rattle.rx_search.proofs.search.visit_plans.Goals as goal
 
 pub search-requires-clause-ready : goal.search-requires-clause-ready
-search-requires-clause-ready g c = (
-  c.requires.solver,
-  c.in_ok-points.ensures,
-  c.requires.listed,
-  c.in_ok-settle_memo.ensures c.args.rules.now,
-  none_right c.args.rules.now c.in_ok-choice_memo.choice_memo c.in_ok-choice_memo.ensures,
-)
+search-requires-clause-ready g c =
+    let s = c.args.space.now in (
+      c.requires.solver,
+      c.in_ok-points.ensures,
+      c.requires.listed,
+      c.in_ok-settle_memo.ensures s.rules.now,
+      none_right s.rules.now c.in_ok-choice_memo.choice_memo c.in_ok-choice_memo.ensures,
+    )
 
 pub search-requires-clause-valid : goal.search-requires-clause-valid
 search-requires-clause-valid g c =
-    start_is c.args.rules.now c.args.goal.now c.in_ok-start.start c.parts-made.ensures.made
+    let s = c.args.space.now in
+    start_is s.kind s.rules.now c.args.goal.now c.in_ok-start.start c.parts-made.ensures.made
     c.requires.fits c.requires.ranked c.in_ok-start.ensures.node

@@ -5,8 +5,8 @@ use Rattle.rx_search.proofs.Shallow.{shallow_inside}
 use Rattle.rx_search.proofs.search.with_domains.Goals as goal
 
 pub returns-clause-accepted : goal.returns-clause-accepted
-returns-clause-accepted c = λ parts goal found is.
-    accepted_inside parts goal c.args.log _ c.args.domains refl found is
+returns-clause-accepted c = λ kind parts goal found is.
+    accepted_inside kind parts goal c.args.log _ c.args.domains refl found is
 
 pub returns-clause-shallow : goal.returns-clause-shallow
 returns-clause-shallow c = λ one two.

@@ -9,7 +9,7 @@ use Rattle.rx_wider.proofs.choices.find_choices.Goals as goal
 pub loop-one-preserved : goal.loop-one-preserved
 loop-one-preserved g c =
     let a = c.args in
-    let f = child a.rules.now (node_of a.node.now) in
+    let f = child a.setting.now.kind a.setting.now.rules.now (node_of a.node.now) in
     record {
       solver = c.in_ok-add_choice.ensures.solver;
       choices =

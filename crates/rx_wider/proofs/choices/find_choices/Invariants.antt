@@ -14,7 +14,8 @@ invariant-loop-one g l = record {
   solver : IsSolver g.S.FnMut l.solve;
   choices :
       map (seen_choice node_of) l.found ≡
-      filter_map (child l.rules (node_of l.node)) (take l.one-index l.candidates);
-  nodes : (goal : Equation) → IsNode l.rules goal l.node →
-      All (λ c. IsNode l.rules goal c.node) l.found;
+      filter_map (child l.setting.kind l.setting.rules.now (node_of l.node))
+      (take l.one-index l.candidates);
+  nodes : (goal : Equation) → IsNode l.setting.kind l.setting.rules.now goal l.node →
+      All (λ c. IsNode l.setting.kind l.setting.rules.now goal c.node) l.found;
 }

@@ -15,8 +15,8 @@ invariant-loop-tail g l = record {
   solver : IsSolver g.S.FnMut l.solve;
   opening :
       opening_of l.begun ≡
-      fold (with_lemma l.setting.rules.now l.goal) (opening_of l.fn.begun)
+      fold (with_lemma l.setting.kind l.setting.rules.now l.goal) (opening_of l.fn.begun)
       (take l.tail-index l.tails);
-  begun : (from : Equation) → IsBegun l.setting.rules.now from l.goal l.fn.begun →
-      IsBegun l.setting.rules.now from l.goal l.begun;
+  begun : (from : Equation) → IsBegun l.setting.kind l.setting.rules.now from l.goal l.fn.begun →
+      IsBegun l.setting.kind l.setting.rules.now from l.goal l.begun;
 }

@@ -14,7 +14,7 @@ returns-in_ok-shared_steps-in-Some-clause-begun g c =
     let to = c.args.to.now in
     let new = c.try_steps.new.state in
     let taken = c.in-Some.taken in
-    bare_begun parts from to c.requires.start new taken
+    bare_begun parts from to c.args.setting.now.kind c.requires.start new taken
     (taken_as parts c.in_ok-state.state (goal_under [] from) new c.as_slice.result.now
     (steps.Generalise to.left to.right to.rows [] [] ∷ [])
     (c.in_ok-state.ensures ∙ ap (goal_under []) c.in_ok-try_clone.ensures)

@@ -15,12 +15,13 @@ visit_behind-requires-clause-begun g c = (
 
 pub returns-clause-found : goal.returns-clause-found
 returns-clause-found g c =
+    let kind = c.args.setting.now.kind in
     let parts = c.args.setting.now.rules.now in
     let goal = c.args.goal.now in
     subst (λ (opening : Opening). IfOk c.visit_behind.result (λ o. option_map moves_of o ≡
-    spec.found_behind parts c.args.reach.depth c.args.reach.budget opening goal))
+    spec.found_behind kind parts c.args.reach.depth c.args.reach.budget opening goal))
     (c.in_ok-opened.ensures.opening
-    ∙ ap (fold (with_lemma parts goal) (opening_of c.args.begun))
+    ∙ ap (fold (with_lemma kind parts goal) (opening_of c.args.begun))
     (c.as_slice.ensures ∙ c.in_ok-tails.ensures))
     (c.visit_behind.ensures.found goal
     (c.in_ok-opened.ensures.begun c.args.from.now c.requires.begun))

@@ -7,7 +7,7 @@ use Rattle.rx_wider.proofs.tree.find_menu.Goals as goal
 
 pub find_choices-requires-clause-can : goal.find_choices-requires-clause-can
 find_choices-requires-clause-can g c =
-    let parts = c.args.explorer.now.rules.now in
+    let parts = c.args.explorer.now.setting.now.rules.now in
     let tails = c.args.explorer.now.tails.now in
     subst (All (CanBeTried parts))
     (sym (c.as_slice.ensures ∙ c.get.ensures ∙ c.in_ok-all.ensures.found))

@@ -8,11 +8,11 @@ use Rattle.rx_wider.proofs.Settling.{settled_node}
 use Rattle.rx_wider.proofs.tree.settle_node.Goals as goal
 
 pub returns-in-Ok-clause-node : goal.returns-in-Ok-clause-node
-returns-in-Ok-clause-node g c = λ goal node.
-    let parts = c.args.explorer.now.rules.now in
+returns-in-Ok-clause-node g c = λ kind goal node.
+    let parts = c.args.explorer.now.setting.now.rules.now in
     IfOk-weaker c.settled_by.result _ _
-    (λ s same. subst (λ (s : Settled Node (Unit {0})). IsNode parts goal s.node) (sym same)
+    (λ s same. subst (λ (s : Settled Node (Unit {0})). IsNode kind parts goal s.node) (sym same)
     (settled_node parts c.args.node c.settle_tasks-found.new.at c.in-Ok.found
-    c.in-Ok.ensures.settled goal
+    c.in-Ok.ensures.settled kind goal
     (c.args.node.steps ++ c.in-Ok.found.steps) refl c.in-Ok.ensures.hypotheses node))
     c.settled_by.ensures
