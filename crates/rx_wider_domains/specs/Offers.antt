@@ -25,11 +25,17 @@ is_number p = is_some (constant_of (out-Body p).terms)
 
 -- ---- numbers
 
--- where argument i is a number c: x_i - c >= 0, and c - x_i >= 0
+-- x_i - c >= 0
+abbrev pub at_least : ℕ → Body → Formed Row
+at_least i c = Ge <$> difference (variable i) c
+
+-- c - x_i >= 0
+abbrev pub at_most : ℕ → Body → Formed Row
+at_most i c = Ge <$> difference c (variable i)
+
+-- where argument i is a number, both
 abbrev pub number_rows : ℕ → Body → List (Formed Row)
-number_rows i p =
-    if is_number p then (Ge <$> difference (variable i) p) ∷ (Ge <$> difference p (variable i)) ∷ []
-    else []
+number_rows i p = if is_number p then at_least i p ∷ at_most i p ∷ [] else []
 
 abbrev pub numbers_from : ℕ → List Body → List (Formed Row)
 numbers_from i [] = []

@@ -7,9 +7,13 @@ use Rattle.rx_row.specs.Negation.{opposite}
 use Rattle.rx_row.specs.declared.row.Row.{Row}
 use Rattle.rx_row.specs.declared.row.Row.TheVariants.{Ge, Eq, Ne}
 
+-- -p >= 0
+abbrev pub opposite_row : Body → Formed Row
+opposite_row p = Ge <$> kept is_within (opposite p)
+
 -- p >= 0, and -p >= 0
 abbrev pub both_signs : Body → List (Formed Row)
-both_signs p = pure (Ge p) ∷ (Ge <$> kept is_within (opposite p)) ∷ []
+both_signs p = pure (Ge p) ∷ opposite_row p ∷ []
 
 abbrev pub signs : Row → List (Formed Row)
 signs (Ge p) = pure (Ge p) ∷ []

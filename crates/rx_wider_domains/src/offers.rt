@@ -1,11 +1,10 @@
 //! The rows that are offered at an occurrence of a symbol.
 ghost use Rattle.std.specs.Prelude.{◌≡◌, ◌≤◌, ◌^◌, length, OnOk};
 ghost use Rattle.std.specs.List.{flat_map};
-ghost use Rattle.rx_plain.specs.Formed.{Forms, ◌<$>◌};
-ghost use Rattle.rx_poly.specs.Constants.{variable};
+ghost use Rattle.rx_plain.specs.Formed.{Forms};
 ghost use Rattle.rx_pairs.specs.Pairs.{part};
 ghost use Rattle.rx_wider_domains.specs.Groups.{taken};
-ghost use Rattle.rx_wider_domains.specs.Offers.{difference, equation, equation_rows, equations_from, handed_row, is_number, number_rows, numbers_from, offers};
+ghost use Rattle.rx_wider_domains.specs.Offers.{at_least, at_most, equation, equation_rows, equations_from, handed_row, is_number, number_rows, numbers_from, offers};
 ghost use Rattle.rx_wider_domains.specs.Places.{places};
 ghost use Rattle.rx_row.specs.declared.row.Row.{Row};
 
@@ -28,7 +27,7 @@ fn is_number(poly: &Poly) -> bool
 
 /// The row that the argument of that place is at least the number.
 fn at_least(alloc: Global, place: u32, number: &Poly) -> Result<Row, PolyEnd>
-    ensures { Forms PolyEnd.Large result (Row.Ge <$> difference (variable place) number.now) }
+    ensures { Forms PolyEnd.Large result (at_least place number.now) }
 {
     let own = Poly::variable(alloc, place)?;
     Ok(Row::Ge(own.sub(alloc, number)?))
@@ -36,7 +35,7 @@ fn at_least(alloc: Global, place: u32, number: &Poly) -> Result<Row, PolyEnd>
 
 /// The row that it is at most the number.
 fn at_most(alloc: Global, place: u32, number: &Poly) -> Result<Row, PolyEnd>
-    ensures { Forms PolyEnd.Large result (Row.Ge <$> difference number.now (variable place)) }
+    ensures { Forms PolyEnd.Large result (at_most place number.now) }
 {
     let own = Poly::variable(alloc, place)?;
     Ok(Row::Ge(number.sub(alloc, &own)?))

@@ -1,12 +1,10 @@
 //! Rows with their signs.
 ghost use Rattle.std.specs.Prelude.{◌≡◌, OnOk};
 ghost use Rattle.std.specs.List.{flat_map};
-ghost use Rattle.rx_plain.specs.Formed.{Forms, kept, ◌<$>◌};
-ghost use Rattle.rx_poly.specs.Limits.{is_within};
-ghost use Rattle.rx_row.specs.Negation.{opposite};
+ghost use Rattle.rx_plain.specs.Formed.{Forms};
 ghost use Rattle.rx_row.specs.declared.row.Row.{Row};
 ghost use Rattle.rx_wider_domains.specs.Groups.{taken};
-ghost use Rattle.rx_wider_domains.specs.Signs.{both_signs, signs};
+ghost use Rattle.rx_wider_domains.specs.Signs.{both_signs, opposite_row, signs};
 
 use crate::group_lists::{take, take_formed};
 use rx_plain::NoMemory;
@@ -16,7 +14,7 @@ use std::alloc::Global;
 
 /// `-p >= 0`; Large exactly where `-p` passes the limits.
 fn at_most_zero(alloc: Global, poly: &Poly) -> Result<Row, PolyEnd>
-    ensures { Forms PolyEnd.Large result (Row.Ge <$> kept is_within (opposite poly.now)) }
+    ensures { Forms PolyEnd.Large result (opposite_row poly.now) }
 {
     Ok(Row::Ge(poly.scale(alloc, -1)?))
 }
