@@ -1,2 +1,5 @@
 -- Lemmas on the definitions of specs/.
+pub mod GroupLaws
+pub mod LawfulLists
+pub mod ServingLaws
 pub mod TakenLaws

@@ -1,7 +1,7 @@
 -- The longer lists of rows that domains may have, by group: first the rows of the goal, where a
 -- redex of it is of the group, and of the rules whose left root is, all with their signs; then
 -- numbers and equations, and twice rows that are handed on.
-use Rattle.std.specs.Prelude.{ℕ, Option, List, [], map}
+use Rattle.std.specs.Prelude.{ℕ, Option, List, [], length, replicate}
 use Rattle.std.specs.List.{flat_map, fold}
 use Rattle.std.specs.Option.{option_and_then, option_map_or}
 use Rattle.rx_row.specs.declared.row.Row.{Row}
@@ -23,7 +23,7 @@ use Rattle.rx_wider_domains.specs.declared.offering.Offering.{Offering}
 
 -- a list for each symbol, without rows
 abbrev pub no_rows : List SymInfo → List (List Row)
-no_rows infos = map (λ (info : SymInfo). []) infos
+no_rows infos = replicate (length infos) []
 
 module _ (names : List ℕ) where
   -- ---- rows with their signs

@@ -68,8 +68,10 @@ pub fn wider_candidates(
         by_symbol rules.now (wider_lists rules.now goal.now)) }
 {
     let names = group_names(alloc, rules)?;
-    let lists = group_rows_of(alloc, names.as_slice(), rules, goal)?;
-    rows_by_symbol(alloc, names.as_slice(), rules.symbols(), lists.as_slice())
+    let own = names.as_slice();
+    let lists = group_rows_of(alloc, own, rules, goal)?;
+    let made = rows_by_symbol(alloc, own, rules.symbols(), lists.as_slice())?;
+    Ok(made)
 }
 
 /// The domains that come of lists that serve.
@@ -80,16 +82,17 @@ fn domains_from<S: FnMut(&Constraint) -> Result<Option<Cert>, FmEnd>>(
     solve: &mut S,
 ) -> Result<Domains, NoMemory>
     requires solver { IsSolver S.FnMut solve.old }
-    requires names { aim.entry.names.now ≡ groups aim.entry.rules.now }
-    requires few { length aim.entry.rules.now.symbols ≤ 2 ^ 32 }
-    requires serves { serves aim.entry.rules.now aim.entry.goal.now lists.now ≡ true }
+    requires names { aim.names.now ≡ groups aim.rules.now }
+    requires few { length aim.rules.now.symbols ≤ 2 ^ 32 }
+    requires serves { serves aim.rules.now aim.goal.now lists.now ≡ true }
     ensures solver { IsSolver S.FnMut solve.new }
     ensures rows { IfOk result (λ d. d.rows ≡
         domains_of aim.entry.rules.now aim.entry.goal.now lists.now) }
     ensures found { IfOk result (AreWider aim.entry.rules.now aim.entry.goal.now) }
 {
     let rows = rows_by_symbol(alloc, aim.names, aim.rules.symbols(), lists)?;
-    settled_domains(alloc, aim.rules, aim.goal, rows, solve)
+    let domains = settled_domains(alloc, aim.rules, aim.goal, rows, solve)?;
+    Ok(domains)
 }
 
 /// What is left of lists that serve once each row is left out that isn't needed, as domains.
@@ -101,9 +104,9 @@ fn least_domains<S: FnMut(&Constraint) -> Result<Option<Cert>, FmEnd>>(
     solve: &mut S,
 ) -> Result<Domains, NoMemory>
     requires solver { IsSolver S.FnMut solve.old }
-    requires names { aim.entry.names.now ≡ groups aim.entry.rules.now }
-    requires few { length aim.entry.rules.now.symbols ≤ 2 ^ 32 }
-    requires serves { serves aim.entry.rules.now aim.entry.goal.now lists.items ≡ true }
+    requires names { aim.names.now ≡ groups aim.rules.now }
+    requires few { length aim.rules.now.symbols ≤ 2 ^ 32 }
+    requires serves { serves aim.rules.now aim.goal.now lists.items ≡ true }
     ensures solver { IsSolver S.FnMut solve.new }
     ensures rows { IfOk result (λ d. d.rows ≡ domains_of aim.entry.rules.now aim.entry.goal.now
         (left_out aim.entry.rules.now aim.entry.goal.now lists.items)) }
@@ -123,15 +126,16 @@ fn domains_where<S: FnMut(&Constraint) -> Result<Option<Cert>, FmEnd>>(
     solve: &mut S,
 ) -> Result<Option<Domains>, NoMemory>
     requires solver { IsSolver S.FnMut solve.old }
-    requires names { aim.entry.names.now ≡ groups aim.entry.rules.now }
-    requires few { length aim.entry.rules.now.symbols ≤ 2 ^ 32 }
+    requires names { aim.names.now ≡ groups aim.rules.now }
+    requires few { length aim.rules.now.symbols ≤ 2 ^ 32 }
     ensures solver { IsSolver S.FnMut solve.new }
     ensures rows { IfOk result (λ found. option_map (λ (d : Domains). d.rows) found ≡
         domains_by aim.entry.rules.now aim.entry.goal.now lists.items) }
     ensures found { IfOk result (λ found. IfSome found
         (AreWider aim.entry.rules.now aim.entry.goal.now)) }
 {
-    if !serves(alloc, aim, lists.as_slice(), memo, solve)? {
+    let served = serves(alloc, aim, lists.as_slice(), memo, solve)?;
+    if !served {
         return Ok(None);
     }
     let domains = least_domains(alloc, aim, lists, memo, solve)?;

@@ -1,9 +1,6 @@
 //! Lists of rows by group, which take up more rows.
-ghost use Rattle.std.specs.Prelude.{◌≡◌, IfOk, OnOk};
-ghost use Rattle.std.specs.Option.{option_map_or};
+ghost use Rattle.std.specs.Prelude.{◌≡◌, OnOk, slice_get};
 ghost use Rattle.rx_plain.specs.Formed.{Formed, Forms, pure};
-ghost use Rattle.rx_row.specs.declared.row.Row.{Row};
-ghost use Rattle.rx_find_domains.specs.Finding.{list_of};
 ghost use Rattle.rx_wider_domains.specs.Groups.{group_rows, has_variable, taking};
 
 use rx_find_domains::rows_of;
@@ -38,6 +35,16 @@ pub(crate) fn take_formed(rows: &mut Constraint, made: Result<Row, PolyEnd>) -> 
         Ok(row) => take(rows, row),
         Err(PolyEnd::Large) => Ok(()),
         Err(PolyEnd::NoMemory) => Err(NoMemory),
+    }
+}
+
+/// The number of the list of the symbol's group, if it has one.
+pub(crate) fn list_number(names: &[u32], sym: Sym) -> Option<usize>
+    ensures { result ≡ slice_get names.now sym.0 }
+{
+    match names.get(sym.0 as usize) {
+        Some(name) => Some(*name as usize),
+        None => None,
     }
 }
 

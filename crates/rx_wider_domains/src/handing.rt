@@ -70,7 +70,14 @@ fn hand_on(
 {
     let mut lists = copied_lists(alloc, before)?;
     let symbols = parts.symbols.as_slice();
-    hand_rules(&mut lists, alloc, names, symbols, before, parts.rules.as_slice())?;
+    hand_rules(
+        &mut lists,
+        alloc,
+        names,
+        symbols,
+        before,
+        parts.rules.as_slice(),
+    )?;
     Ok(lists)
 }
 

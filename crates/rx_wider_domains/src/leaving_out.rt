@@ -80,8 +80,8 @@ fn leave_row<S: FnMut(&Constraint) -> Result<Option<Cert>, FmEnd>>(
     solve: &mut S,
 ) -> Result<(), NoMemory>
     requires solver { IsSolver S.FnMut solve.old }
-    requires names { aim.entry.names.now ≡ groups aim.entry.rules.now }
-    requires few { length aim.entry.rules.now.symbols ≤ 2 ^ 32 }
+    requires names { aim.names.now ≡ groups aim.rules.now }
+    requires few { length aim.rules.now.symbols ≤ 2 ^ 32 }
     ensures solver { IsSolver S.FnMut solve.new }
     ensures lists { OnOk result (lists.new.items ≡
         leaving aim.entry.rules.now aim.entry.goal.now lists.old.items at.now) }
@@ -89,9 +89,11 @@ fn leave_row<S: FnMut(&Constraint) -> Result<Option<Cert>, FmEnd>>(
     let sym = Sym(at.0);
     let before = copied_list(alloc, rows_of(lists.as_slice(), sym))?;
     drop_row(alloc, lists, sym, &at.1)?;
-    if !serves(alloc, aim, lists.as_slice(), memo, solve)? {
-        put_rows(lists, sym, before);
+    let served = serves(alloc, aim, lists.as_slice(), memo, solve)?;
+    if served {
+        return Ok(());
     }
+    put_rows(lists, sym, before);
     Ok(())
 }
 
@@ -104,14 +106,15 @@ pub(crate) fn leave_out<S: FnMut(&Constraint) -> Result<Option<Cert>, FmEnd>>(
     solve: &mut S,
 ) -> Result<(), NoMemory>
     requires solver { IsSolver S.FnMut solve.old }
-    requires names { aim.entry.names.now ≡ groups aim.entry.rules.now }
-    requires few { length aim.entry.rules.now.symbols ≤ 2 ^ 32 }
+    requires names { aim.names.now ≡ groups aim.rules.now }
+    requires few { length aim.rules.now.symbols ≤ 2 ^ 32 }
     ensures solver { IsSolver S.FnMut solve.new }
     ensures lists { OnOk result (lists.new.items ≡
         left_out aim.entry.rules.now aim.entry.goal.now lists.old.items) }
 {
     let tried = tried_rows(alloc, lists.as_slice())?;
-    for at in tried.as_slice() {
+    let rows = tried.as_slice();
+    for at in rows {
         leave_row(lists, alloc, aim, at, memo, solve)?;
     }
     Ok(())

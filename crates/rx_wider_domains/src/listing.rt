@@ -8,6 +8,7 @@ ghost use Rattle.rx_term.specs.Stacks.{root_of};
 ghost use Rattle.rx_find_domains.specs.Parts.{occurrences_of};
 ghost use Rattle.rx_wider_domains.specs.Lists.{at_occurrence, at_rules, no_rows, rows_listed, with_goal, with_rule, with_side, with_signs};
 
+use crate::group_lists::list_number;
 use crate::offering::Offering;
 use crate::offers::take_offers;
 use crate::signs::take_all_signs;
@@ -30,10 +31,9 @@ fn take_rows(
     let Some(sym) = root else {
         return Ok(());
     };
-    let Some(name) = names.get(sym.0 as usize) else {
+    let Some(at) = list_number(names, sym) else {
         return Ok(());
     };
-    let at = *name as usize;
     if at < lists.len() {
         take_all_signs(&mut lists[at], alloc, rows)?;
     }
@@ -129,10 +129,9 @@ fn visit_occurrence(
     if args.len() > u32::MAX as usize {
         return Err(NoMemory);
     }
-    let Some(name) = names.get(sym.0 as usize) else {
+    let Some(at) = list_number(names, sym) else {
         return Ok(());
     };
-    let at = *name as usize;
     if at < lists.len() {
         take_offers(&mut lists[at], alloc, names, offering, sym, args)?;
     }

@@ -43,12 +43,7 @@ fn at_most(alloc: Global, place: u32, number: &Poly) -> Result<Row, PolyEnd>
 }
 
 /// Adds both where the argument is a number.
-fn take_number(
-    rows: &mut Constraint,
-    alloc: Global,
-    place: u32,
-    arg: &Poly,
-) -> Result<(), NoMemory>
+fn take_number(rows: &mut Constraint, alloc: Global, place: u32, arg: &Poly) -> Result<(), NoMemory>
     ensures { OnOk result (rows.new ≡ taken rows.old (number_rows place arg.now)) }
 {
     if !is_number(arg) {
@@ -70,12 +65,7 @@ fn take_numbers(rows: &mut Constraint, alloc: Global, args: &[Poly]) -> Result<(
 }
 
 /// The row that the argument of that place is what it is, said of the places of its variables.
-fn equation(
-    alloc: Global,
-    places: &[(u32, Poly)],
-    place: u32,
-    arg: &Poly,
-) -> Result<Row, PolyEnd>
+fn equation(alloc: Global, places: &[(u32, Poly)], place: u32, arg: &Poly) -> Result<Row, PolyEnd>
     ensures { Forms PolyEnd.Large result (equation places.now place arg.now) }
 {
     let said = arg.subst(alloc, places)?;

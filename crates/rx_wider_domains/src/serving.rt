@@ -82,7 +82,8 @@ fn is_ready<S: FnMut(&Constraint) -> Result<Option<Cert>, FmEnd>>(
     ensures solver { IsSolver S.FnMut solve.new }
     ensures ready { IfOk result (λ is. is ≡ is_ready rules.now) }
 {
-    if !is_covered(alloc, rules, solve)? {
+    let covered = is_covered(alloc, rules, solve)?;
+    if !covered {
         return Ok(false);
     }
     is_ranked(alloc, rules, memo, solve)
@@ -110,8 +111,8 @@ fn find_domains_of<S: FnMut(&Constraint) -> Result<Option<Cert>, FmEnd>>(
     solve: &mut S,
 ) -> Result<Items<Constraint>, NoMemory>
     requires solver { IsSolver S.FnMut solve.old }
-    requires names { aim.entry.names.now ≡ groups aim.entry.rules.now }
-    requires few { length aim.entry.rules.now.symbols ≤ 2 ^ 32 }
+    requires names { aim.names.now ≡ groups aim.rules.now }
+    requires few { length aim.rules.now.symbols ≤ 2 ^ 32 }
     ensures solver { IsSolver S.FnMut solve.new }
     ensures rows { IfOk result (λ rows. rows ≡
         domains_of aim.entry.rules.now aim.entry.goal.now lists.now) }
@@ -129,8 +130,8 @@ pub(crate) fn serves<S: FnMut(&Constraint) -> Result<Option<Cert>, FmEnd>>(
     solve: &mut S,
 ) -> Result<bool, NoMemory>
     requires solver { IsSolver S.FnMut solve.old }
-    requires names { aim.entry.names.now ≡ groups aim.entry.rules.now }
-    requires few { length aim.entry.rules.now.symbols ≤ 2 ^ 32 }
+    requires names { aim.names.now ≡ groups aim.rules.now }
+    requires few { length aim.rules.now.symbols ≤ 2 ^ 32 }
     ensures solver { IsSolver S.FnMut solve.new }
     ensures serves { IfOk result (λ b. b ≡
         serves aim.entry.rules.now aim.entry.goal.now lists.now) }

@@ -9,6 +9,6 @@ abbrev pub invariant-loop-at : goal.invariant-loop-at
 invariant-loop-at g l = record {
   solver : IsSolver g.S.FnMut l.solve;
   decides :
-      fold (leaving l.aim.rules l.aim.goal) l.lists.items (drop l.at-index l.tried.items)
-      ≡ fold (leaving l.aim.rules l.aim.goal) l.fn.lists.items (tried l.fn.lists.items);
+      fold (leaving l.aim.rules.now l.aim.goal.now) l.lists.items (drop l.at-index l.rows)
+      ≡ fold (leaving l.aim.rules.now l.aim.goal.now) l.fn.lists.items (tried l.fn.lists.items);
 }
