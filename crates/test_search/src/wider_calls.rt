@@ -20,11 +20,7 @@ fn answer_of(alloc: Global, lists: &[Constraint]) -> Option<Answer> {
 }
 
 // What is found for the goal, by the refuter.
-fn wider_of(
-    alloc: Global,
-    set: &RuleSet,
-    goal: &Equation,
-) -> Result<Option<Domains>, NoMemory> {
+fn wider_of(alloc: Global, set: &RuleSet, goal: &Equation) -> Result<Option<Domains>, NoMemory> {
     let mut memo = RankMemo::new(alloc);
     let mut solve = |rows: &Constraint| refutes(alloc, rows);
     find_wider_domains(alloc, set, goal, &mut memo, &mut solve)
