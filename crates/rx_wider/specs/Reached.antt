@@ -15,6 +15,7 @@ use Rattle.rx_rank.specs.declared.kind.RankingKind.{RankingKind}
 use Rattle.rx_memo.specs.Kept.{IsKept}
 use Rattle.rx_memo.specs.declared.goal_memo.Kept.{Kept}
 use Rattle.rx_moves.specs.Moves.{Expand, Move, Postulate, move_of}
+use Rattle.rx_pairs.specs.declared.listing.Listing.{Listing}
 use Rattle.rx_proofs.specs.Goals.{IsFitting}
 use Rattle.rx_settle.specs.Answers.{AreDeep, after_all}
 use Rattle.rx_settle.specs.Certified.{asks_rows}
@@ -126,14 +127,15 @@ pub record AreChoices (parts : RuleParts)
 
 -- ---- what is searched
 
--- the rules, the lemmas before all, and which solver is asked
+-- the rules, how they are ranked, their pairs, the lemmas before all, and which solver is asked
 pub record Explored : Type 0 where
+  pub kind : RankingKind
   pub parts : RuleParts
+  pub pairs : Listing
   pub tails : List Rule
   pub solver : GName
 
--- with the goal, and how the rules are ranked
+-- with the goal
 pub record Problem : Type 0 where
   pub goal : Equation
-  pub kind : RankingKind
   pub explored : Explored

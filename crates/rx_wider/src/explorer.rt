@@ -59,7 +59,9 @@ impl<'a, S: FnMut(&Constraint) -> Result<Option<Cert>, FmEnd>> Explores for Expl
     ghost World = { Explored };
 
     ghost world = { λ e. record {
+      kind = e.setting.now.kind;
       parts = e.setting.now.rules.now;
+      pairs = e.setting.now.pairs.now;
       tails = e.tails.now;
       solver = e.solve.ghost_name;
     } };

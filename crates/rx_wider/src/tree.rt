@@ -67,7 +67,9 @@ fn settle_node<S: FnMut(&Constraint) -> Result<Option<Cert>, FmEnd>>(
         explorer.new.setting.now.points.now }
     ensures known { AreKnown explorer.new.setting.now.rules.now explorer.new.memo.now }
     ensures solver { IsSolver S.FnMut explorer.new.solve.now }
-    ensures setting { explorer.new.setting.now ≡ explorer.old.setting.now }
+    ensures rules { explorer.new.setting.now.rules.now ≡ explorer.old.setting.now.rules.now }
+    ensures pairs { explorer.new.setting.now.pairs.now ≡ explorer.old.setting.now.pairs.now }
+    ensures kind { explorer.new.setting.now.kind ≡ explorer.old.setting.now.kind }
     ensures tails { explorer.new.tails.now ≡ explorer.old.tails.now }
     ensures name { explorer.new.solve.ghost_name ≡ explorer.old.solve.ghost_name }
     ensures settled { IfOk result (λ s. seen_settled node_of s ≡
@@ -114,7 +116,9 @@ fn find_menu<S: FnMut(&Constraint) -> Result<Option<Cert>, FmEnd>>(
     ensures points { AreLoopPoints explorer.new.setting.now.rules.now
         explorer.new.setting.now.points.now }
     ensures settling { AreKnown explorer.new.setting.now.rules.now explorer.new.memo.now }
-    ensures setting { explorer.new.setting.now ≡ explorer.old.setting.now }
+    ensures rules { explorer.new.setting.now.rules.now ≡ explorer.old.setting.now.rules.now }
+    ensures pairs { explorer.new.setting.now.pairs.now ≡ explorer.old.setting.now.pairs.now }
+    ensures kind { explorer.new.setting.now.kind ≡ explorer.old.setting.now.kind }
     ensures tails { explorer.new.tails.now ≡ explorer.old.tails.now }
     ensures name { explorer.new.solve.ghost_name ≡ explorer.old.solve.ghost_name }
     ensures menu { IfOk result (λ m. seen_menu node_of m ≡
@@ -176,9 +180,10 @@ impl<'a, 'b, S: FnMut(&Constraint) -> Result<Option<Cert>, FmEnd>> Tree for Wide
 
     ghost world = { λ t. record {
       goal = t.goal.now;
-      kind = t.explorer.setting.now.kind;
       explored = record {
+        kind = t.explorer.setting.now.kind;
         parts = t.explorer.setting.now.rules.now;
+        pairs = t.explorer.setting.now.pairs.now;
         tails = t.explorer.tails.now;
         solver = t.explorer.solve.ghost_name;
       };
@@ -196,11 +201,11 @@ impl<'a, 'b, S: FnMut(&Constraint) -> Result<Option<Cert>, FmEnd>> Tree for Wide
 
     ghost view = { node_of };
 
-    ghost valid = { λ w n. IsNode w.kind w.explored.parts w.goal n };
+    ghost valid = { λ w n. IsNode w.explored.kind w.explored.parts w.goal n };
 
     ghost settled = { λ w v. wider.settled w.explored.parts v };
 
-    ghost menu = { λ w v. wider.menu w.kind w.explored.parts w.explored.tails v };
+    ghost menu = { λ w v. wider.menu w.explored.kind w.explored.parts w.explored.tails v };
 
     fn settle(&mut self, node: Node) -> Result<Settled<Node, ()>, NoMemory> {
         settle_node(&mut self.explorer, node)

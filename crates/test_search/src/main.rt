@@ -35,6 +35,7 @@ mod set_calls;
 mod tasks;
 mod translation_cases;
 mod use_calls;
+mod wider_calls;
 
 use running::ran;
 use rx_term::RuleSet;
@@ -52,6 +53,8 @@ fn is_answered(alloc: Global, set: &RuleSet, case: &Case<'_>) -> Option<bool> {
         "cover" | "lowers" | "ranks" => finding_answers::holds(alloc, set, case),
         "beside" | "lemmas" | "named" | "use" => lemma_answers::holds(alloc, set, case),
         "found" => domain_calls::found(alloc, set, case.given)?.is_meant(alloc, case.wanted),
+        "listed" => wider_calls::listed(alloc, set, case.given)?.is_meant(alloc, case.wanted),
+        "wider" => wider_calls::wider(alloc, set, case.given)?.is_meant(alloc, case.wanted),
         "runs" => ran(alloc, set, case.given)?.is_meant(alloc, case.wanted),
         _ => search_answers::holds(alloc, set, case),
     }

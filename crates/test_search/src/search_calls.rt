@@ -10,6 +10,7 @@ use rx_find_cover::find_cover;
 use rx_find_ranks::{Ranking, find_ranks};
 use rx_fm::FmEnd;
 use rx_pairs::have_roots;
+use rx_rank::RankingKind;
 use rx_row::Constraint;
 use rx_solve::refutes;
 use rx_term::{Rule, RuleSet};
@@ -45,7 +46,7 @@ fn have_fitting_sides(set: &RuleSet, rules: &[Rule]) -> bool
     true
 }
 
-// What is found of ranks under these hypotheses; none where they don't fit the set.
+// What the plain ranking finds under these hypotheses; none where they don't fit the set.
 fn ranked(
     alloc: Global,
     set: &RuleSet,
@@ -55,7 +56,8 @@ fn ranked(
         return None;
     }
     let mut solve = |rows: &Constraint| refutes(alloc, rows);
-    Some(find_ranks(alloc, set, hypotheses, &mut solve))
+    let plain = RankingKind::Plain;
+    Some(find_ranks(alloc, plain, set, hypotheses, &mut solve))
 }
 
 fn ranking(alloc: Global, set: &RuleSet, given: &str) -> Option<Result<Option<Ranking>, FmEnd>> {

@@ -10,5 +10,5 @@ find_choices-requires-clause-can g c =
     let parts = c.args.explorer.now.setting.now.rules.now in
     let tails = c.args.explorer.now.tails.now in
     subst (All (CanBeTried parts))
-    (sym (c.as_slice.ensures ∙ c.get.ensures ∙ c.in_ok-all.ensures.found))
+    (sym (c.as_slice-candidates.ensures ∙ c.get.ensures ∙ c.in_ok-all.ensures.found))
     (all_can parts (descendants parts tails) c.in-Some.first)
