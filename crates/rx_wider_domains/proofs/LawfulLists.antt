@@ -1,5 +1,5 @@
--- The rows of a symbol are over its own arguments, so the lists by symbol are lawful, and so are the
--- domains that come of them.
+-- The rows of a symbol are over its own arguments, so the lists by symbol are lawful, and so are
+-- the domains that come of them.
 use Rattle.std.proofs.Common.{◌≡◌, ◌∙◌, ap, refl, ℕ, zero, suc, ◌+◌, Bool, true, false, if◌then◌else◌, cond, None, Some, List, [], ◌∷◌, take}
 use Rattle.std.specs.List.{filter}
 use Rattle.std.proofs.lemmas.Bool.{and_from, and_parts}

@@ -1,5 +1,5 @@
 -- The wider domains that are found. Lists of rows serve where the rules with the domains that are
--- settled from them are coverable and have ranks. Where the longer lists serve, each of their rows
+-- settled from them are coverable and have ranks by the wider ranking. Where the longer lists serve, each of their rows
 -- is left out in turn if they serve without it.
 use Rattle.std.specs.Prelude.{ℕ, ◌+◌, Bool, ◌&&◌, if◌then◌else◌, Option, Some, None, List, [], ◌∷◌, ◌++◌, map, reverse, take}
 use Rattle.std.specs.List.{fold}

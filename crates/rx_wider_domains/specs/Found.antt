@@ -1,4 +1,4 @@
--- What is known of wider domains that are found.
+-- What a search needs of domains to begin inside them.
 use Rattle.std.specs.Prelude.{◌≡◌, true, None, []}
 use Rattle.rx_cert.specs.Findings.{Yes}
 use Rattle.rx_domain.specs.Keeping.{Keeps, keeping}
@@ -12,8 +12,8 @@ use Rattle.rx_term.specs.declared.rule.Equation.{Equation}
 use Rattle.rx_term.specs.declared.rule_set.RuleParts.{RuleParts}
 
 -- each is over the arguments of its symbol; they are kept, with certificates of that; and inside
--- them the rules are coverable and have ranks
-pub record AreWider (parts : RuleParts) (goal : Equation) (d : Domains) : Type 0 where
+-- them the rules are coverable and have ranks by the wider ranking
+pub record AreReady (parts : RuleParts) (goal : Equation) (d : Domains) : Type 0 where
   pub lawful : bad_domain parts.symbols d.rows ≡ None
   pub keeps : keeping (with_domains parts d.rows) goal d.keeps ≡ Keeps
   pub certificates : AreAllKeeps (with_domains parts d.rows) goal d.keeps

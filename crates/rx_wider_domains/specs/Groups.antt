@@ -1,6 +1,6 @@
 -- Lists of rows by group. The list of a group of symbols stands at its least symbol, which is its
 -- name; the lists at the other symbols are empty.
-use Rattle.std.specs.Prelude.{ℕ, ◌+◌, nat_lt, Bool, ◌&&◌, if◌then◌else◌, Option, List, [], ◌∷◌, take, slice_get, slice_set}
+use Rattle.std.specs.Prelude.{ℕ, ◌+◌, nat_lt, Bool, ◌&&◌, if◌then◌else◌, List, [], ◌∷◌, take, slice_get, slice_set}
 use Rattle.std.specs.List.{filter, fold}
 use Rattle.std.specs.Option.{option_map_or}
 use Rattle.rx_plain.specs.Formed.{Formed}

@@ -1,5 +1,5 @@
 -- Wider domains: a longer list of rows that a domain may have, of which those are left out without
--- which there are a cover and ranks inside the domains that are found as well.
+-- which there are a cover and ranks, by the wider ranking, inside the domains that are found.
 pub mod Finding
 pub mod Found
 pub mod Groups

@@ -50,7 +50,8 @@ fn first_rows(
     sym: Sym,
     arity: u32,
 ) -> Result<Constraint, NoMemory>
-    ensures { IfOk result (λ rows. rows ≡ take most_rows (rows_over names.now lists.now sym.0 arity)) }
+    ensures { IfOk result (λ rows. rows ≡
+        take most_rows (rows_over names.now lists.now sym.0 arity)) }
 {
     let mut rows = rows_below(alloc, group_rows(names, lists, sym), arity)?;
     rows.truncate(MOST_ROWS);

@@ -12,7 +12,7 @@ ghost use Rattle.rx_rank.specs.Ranking.{ranked};
 ghost use Rattle.rx_rank.specs.declared.kind.RankingKind.TheVariants.{Wider};
 ghost use Rattle.rx_solve.specs.Answers.{IsSolver};
 ghost use Rattle.rx_wider_domains.specs.Finding.{domains_by, domains_of, left_out, serves, wider_domains};
-ghost use Rattle.rx_wider_domains.specs.Found.{AreWider};
+ghost use Rattle.rx_wider_domains.specs.Found.{AreReady};
 ghost use Rattle.rx_wider_domains.specs.Groups.{by_symbol};
 ghost use Rattle.rx_wider_domains.specs.Lists.{wider_lists};
 
@@ -88,7 +88,7 @@ fn domains_from<S: FnMut(&Constraint) -> Result<Option<Cert>, FmEnd>>(
     ensures solver { IsSolver S.FnMut solve.new }
     ensures rows { IfOk result (λ d. d.rows ≡
         domains_of aim.entry.rules.now aim.entry.goal.now lists.now) }
-    ensures found { IfOk result (AreWider aim.entry.rules.now aim.entry.goal.now) }
+    ensures found { IfOk result (AreReady aim.entry.rules.now aim.entry.goal.now) }
 {
     let rows = rows_by_symbol(alloc, aim.names, aim.rules.symbols(), lists)?;
     let domains = settled_domains(alloc, aim.rules, aim.goal, rows, solve)?;
@@ -110,7 +110,7 @@ fn least_domains<S: FnMut(&Constraint) -> Result<Option<Cert>, FmEnd>>(
     ensures solver { IsSolver S.FnMut solve.new }
     ensures rows { IfOk result (λ d. d.rows ≡ domains_of aim.entry.rules.now aim.entry.goal.now
         (left_out aim.entry.rules.now aim.entry.goal.now lists.items)) }
-    ensures found { IfOk result (AreWider aim.entry.rules.now aim.entry.goal.now) }
+    ensures found { IfOk result (AreReady aim.entry.rules.now aim.entry.goal.now) }
 {
     let mut lists = lists;
     leave_out(&mut lists, alloc, aim, memo, solve)?;
@@ -132,7 +132,7 @@ fn domains_where<S: FnMut(&Constraint) -> Result<Option<Cert>, FmEnd>>(
     ensures rows { IfOk result (λ found. option_map (λ (d : Domains). d.rows) found ≡
         domains_by aim.entry.rules.now aim.entry.goal.now lists.items) }
     ensures found { IfOk result (λ found. IfSome found
-        (AreWider aim.entry.rules.now aim.entry.goal.now)) }
+        (AreReady aim.entry.rules.now aim.entry.goal.now)) }
 {
     let served = serves(alloc, aim, lists.as_slice(), memo, solve)?;
     if !served {
@@ -142,22 +142,24 @@ fn domains_where<S: FnMut(&Constraint) -> Result<Option<Cert>, FmEnd>>(
     Ok(Some(domains))
 }
 
-/// Wider domains for the symbols of the rules: rows of a longer list that both sides of the goal and
-/// the right sides of the rules keep, as the solver shows it, with certificates of that, and inside
-/// which the rules are coverable and have ranks. The rules' own domains aren't looked at.
+/// Wider domains for the symbols of the rules: rows of a longer list that both sides of the goal
+/// and the right sides of the rules keep, as the solver shows it, with certificates of that, and
+/// inside which the rules are coverable and have ranks by the wider ranking. The rules' own domains
+/// aren't looked at.
 ///
 /// The longer list of a group of symbols (those of `find_domains`) has the rows of the goal and of
 /// the rules, and behind each `p = 0` and `p != 0` also `p >= 0` and `-p >= 0`; then, of each
 /// occurrence of a symbol of the group, that an argument which is a number is at least and at most
-/// that number, and that one which isn't is what it is, where all its variables are arguments alone;
-/// and then, twice, the rows of another group's symbol where it leads to a symbol of the group, said
-/// of the arguments there. The rows of a symbol are the first 24 over its own arguments. Where the
-/// domains that are settled from these have a cover and ranks, each row, of the last 128, is left
-/// out in turn if they have these without it.
+/// that number, and that one which isn't is what it is, where all its variables are arguments
+/// alone; and then, twice, the rows of another group's symbol where it leads to a symbol of the
+/// group, said of the arguments there. The rows of a symbol are the first 24 over its own
+/// arguments. Where the domains that are settled from these have a cover and ranks, each row, of
+/// the last 128, is left out in turn if they have these without it.
 ///
 /// None where the rules with the domains that are settled from the longer list aren't coverable or
-/// have no ranks, also where something on the way passes the limits. Tests of pairs are kept in the
-/// memo. Fails only where there is no memory, which is also the answer for 2^32 symbols or more.
+/// have no such ranks, also where something on the way passes the limits. Tests of pairs are kept
+/// in the memo. Fails only where there is no memory, which is also the answer for 2^32 symbols or
+/// more.
 pub fn find_wider_domains<S: FnMut(&Constraint) -> Result<Option<Cert>, FmEnd>>(
     alloc: Global,
     rules: &RuleSet,

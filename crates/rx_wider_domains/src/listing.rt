@@ -55,7 +55,8 @@ fn take_side(
     goal: &Equation,
     side: &Term,
 ) -> Result<(), NoMemory>
-    ensures { OnOk result (lists.new.items ≡ with_side names.now goal.now lists.old.items side.now) }
+    ensures { OnOk result (lists.new.items ≡
+        with_side names.now goal.now lists.old.items side.now) }
 {
     take_rows(lists, alloc, names, goal.rows.rows(), redex_root(side))
 }

@@ -129,7 +129,8 @@ fn take_handed_rows(
     places: &[(u32, Poly)],
     handed: &[Row],
 ) -> Result<(), NoMemory>
-    ensures { OnOk result (rows.new ≡ taken rows.old (flat_map (handed_row places.now) handed.now)) }
+    ensures { OnOk result (rows.new ≡
+        taken rows.old (flat_map (handed_row places.now) handed.now)) }
 {
     for row in handed {
         take_handed_row(rows, alloc, places, row)?;

@@ -1,5 +1,5 @@
 //! Whether lists of rows serve: the rules with the domains that come of them are coverable, and
-//! have ranks.
+//! have ranks by the wider ranking.
 ghost use Rattle.std.specs.Prelude.{◌≡◌, ◌≤◌, ◌^◌, None, [], length, IfOk};
 ghost use Rattle.rx_domain.specs.Setting.{bad_domain, with_domains};
 ghost use Rattle.rx_find_cover.specs.Coverable.{is_coverable};
@@ -52,7 +52,7 @@ fn is_covered<S: FnMut(&Constraint) -> Result<Option<Cert>, FmEnd>>(
     }
 }
 
-/// Whether the rules have ranks; not where something on the way passes the limits.
+/// Whether the rules have ranks by the wider ranking; not where something on the way passes the limits.
 fn is_ranked<S: FnMut(&Constraint) -> Result<Option<Cert>, FmEnd>>(
     alloc: Global,
     rules: &RuleSet,

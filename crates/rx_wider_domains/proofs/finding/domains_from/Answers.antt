@@ -4,7 +4,6 @@ use Rattle.rx_row.specs.declared.row.Row.{Row}
 use Rattle.rx_domain.specs.Setting.{bad_domain, with_domains}
 use Rattle.rx_find_domains.specs.Finding.{settled}
 use Rattle.rx_wider_domains.specs.Finding.{domains_of, is_ready}
-use Rattle.rx_wider_domains.specs.Groups.{by_symbol}
 use Rattle.rx_wider_domains.proofs.LawfulLists.{by_are, by_symbol_lawful}
 use Rattle.rx_wider_domains.proofs.ServingLaws.{ready_coverable, ready_ranked, serves_ready}
 use Rattle.rx_wider_domains.proofs.finding.domains_from.Goals as goal

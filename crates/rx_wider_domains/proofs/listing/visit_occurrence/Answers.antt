@@ -11,6 +11,7 @@ returns-else-at-len c =
     let is : slice_get c.args.names.now c.args.sym.0 ≡ Some c.in-Some.at =
     sym c.list_number.ensures ∙ c.in-Some.is in
     let count = c.len.ensures in
-    let far : length c.args.lists.now.items ≤ c.in-Some.at = omega (arith, count, c.if-at-len.false) in
+    let far : length c.args.lists.now.items ≤ c.in-Some.at =
+    omega (arith, count, c.if-at-len.false) in
     past c.args.names.now c.args.lists.now.items c.args.sym.0 c.in-Some.at
     (offers c.args.names.now c.args.offering.now (part c.args.sym c.args.args.now)) is far

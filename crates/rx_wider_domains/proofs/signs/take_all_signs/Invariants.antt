@@ -7,4 +7,5 @@ use Rattle.rx_wider_domains.proofs.signs.take_all_signs.Given as goal
 
 abbrev pub invariant-loop-row : goal.invariant-loop-row
 invariant-loop-row l =
-    taken l.rows (flat_map signs (drop l.row-index l.more)) ≡ taken l.fn.rows (flat_map signs l.more)
+    taken l.rows (flat_map signs (drop l.row-index l.more))
+    ≡ taken l.fn.rows (flat_map signs l.more)
