@@ -8,11 +8,12 @@ use thiserror::Error;
 /// Why a search made no log, or why that isn't known.
 #[derive(Debug, Drop, Error)]
 pub enum SearchEnd {
-    /// The rules alone have no ranks, and inside the domains that are found they have none or no
-    /// cover.
+    /// The rules alone have no ranks, inside the domains that are found they have none or no cover,
+    /// and there are no wider domains.
     #[error("no ranks are found")]
     NoRanks,
-    /// That is so, and a polynomial passes the limits on the way to the ranks.
+    /// The rules alone have no ranks, inside the domains that are found they have none or no cover,
+    /// and a polynomial passes the limits on the way to the ranks. Wider domains aren't looked for.
     #[error("a polynomial of the ranks is too large")]
     LargeRanks {
         /// The rows of the goal.
