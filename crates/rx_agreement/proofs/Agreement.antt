@@ -5,7 +5,7 @@ use Rattle.std.specs.Prelude.{Contains, slice_get}
 use Rattle.std.proofs.lemmas.Option.{same_Some}
 use Rattle.rx_rewriting.specs.Terms as stack
 use Rattle.rx_rewriting.specs.Steps.{Reaches}
-use Rattle.c_ast.specs.declared.integers.Integers.TheVariants.{Unbounded}
+use Rattle.c_ast.specs.declared.integers.Integers.{Integers}
 use Rattle.c_meaning.specs.Programs.{Returns}
 use Rattle.rx_term.specs.Meaning.{Instance}
 use Rattle.rx_term.specs.Paired.{IsPaired}
@@ -42,9 +42,11 @@ above_none : (fs : List Function) → 0 < above_all fs
 above_none [] = omega arith
 above_none (f ∷ fs) = omega arith
 
-module _ (program : Resolved) (code : Code) (carries : CarriesProgram program code) where
+module _ (integers : Integers) (program : Resolved) (code : Code)
+    (carries : CarriesProgram integers program code) where
   compiled : (f count : ℕ) → TakesCall program code f count →
-      IsCompiled (acts_in code) (TakesCall program code) program (entry_of code.entries) f count
+      IsCompiled integers (acts_in code) (TakesCall program code) program (entry_of code.entries) f
+      count
   compiled f count called =
       let there = carries f called.symbol called.begins in
       record {
@@ -55,21 +57,23 @@ module _ (program : Resolved) (code : Code) (carries : CarriesProgram program co
             (sym called.parameters ∙ mapped_at (λ (g : Function). length g.params) program.functions
             f there.function there.stands);
         code =
-            subst (λ s. HasCode (acts_in code) (TakesCall program code) there.function s)
+            subst (λ s. HasCode integers (acts_in code) (TakesCall program code) there.function s)
             (sym there.is_entry) there.carried;
       }
 
   pub carried_code_agrees : (parts : RuleParts) → IsWellMade parts → IsPaired parts →
-      DoAll (Instance parts.rules) (entry_of code.entries) (acts_in code)
-      → (f symbol : ℕ) → Contains code.entries (f, symbol) → AgreeOn program parts.rules f symbol
+      DoAll integers (Instance parts.rules) (entry_of code.entries) (acts_in code)
+      → (f symbol : ℕ) → Contains code.entries (f, symbol) →
+      AgreeOn integers program parts.rules f symbol
   carried_code_agrees parts made paired does f symbol begins arguments count r answer =
       let R = Instance parts.rules in
       let called : TakesCall program code f (length arguments) =
       record { symbol = symbol; begins = begins; parameters = count } in
       let is_entry = (carries f symbol begins).is_entry in
-      let Agrees : ℕ → Type 0 = λ s. Returns Unbounded program f arguments r ↔ Reaches R
+      let Agrees : ℕ → Type 0 = λ s. Returns integers program f arguments r ↔ Reaches R
       (stack.Call s arguments) (result_of r) in
       subst Agrees is_entry
-      (agree R program (entry_of code.entries) (TakesCall program code) (acts_in code) does compiled
+      (agree integers R program (entry_of code.entries) (TakesCall program code) (acts_in code) does
+      compiled
       (above_all program.functions) (above program.functions) (above_none program.functions)
       (single_valued parts made paired) (results_rest parts made) f arguments called r answer)

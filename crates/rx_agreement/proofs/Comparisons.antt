@@ -1,5 +1,5 @@
 -- What comparisons test, and what values logical expressions have.
-use Rattle.std.proofs.Common.{◌≡◌, ℕ, Bool, true, false, not, refl, sym, ap, subst, ◌∙◌, ℤ, pos, ◌-ℤ◌, ◌≤ℤ◌, ◌<ℤ◌, arith, T}
+use Rattle.std.proofs.Common.{◌≡◌, ℕ, Bool, true, false, not, if◌then◌else◌, refl, sym, ap, subst, ◌∙◌, ℤ, pos, ◌-ℤ◌, ◌≤ℤ◌, ◌<ℤ◌, arith, T}
 use Rattle.std.specs.Prelude.{int_lt, int_le}
 use Rattle.std.specs.Ordering.{int_eq}
 use Rattle.std.specs.Int.Signed.{lt_z_yes, lt_z_no, le_z_yes}
@@ -16,13 +16,16 @@ use Rattle.rx_row.specs.declared.row.Row.{Row}
 use Rattle.rx_row.specs.Holds.{RowHolds}
 use Rattle.rx_row.specs.Negation.{negation}
 use Rattle.rx_row.proofs.RowLaws.{negation-holds}
+use Rattle.c_ast.specs.declared.expr.UnOp.TheVariants as Sign
 use Rattle.c_ast.specs.declared.expr.BinOp.{BinOp}
 use Rattle.c_ast.specs.declared.expr.BinOp.TheVariants as Op
-use Rattle.c_ast.specs.declared.integers.Integers.TheVariants.{Unbounded}
-use Rattle.c_meaning.specs.Outcomes.{Outcome, Value, on_value}
-use Rattle.c_meaning.specs.Expressions.{truth, binary, is_zero}
+use Rattle.c_ast.specs.declared.expr.Expr.{Expr}
+use Rattle.c_ast.specs.declared.integers.Integers.{Integers}
+use Rattle.c_meaning.specs.Outcomes.{Outcome, Value, Error, More, on_value, State}
+use Rattle.c_meaning.specs.Expressions.{Calls, truth, binary, is_zero, expr}
+use Rattle.c_meaning.proofs.Equations.{expr-Unary, expr-Binary}
 use Rattle.rx_code.specs.Codes as code
-use Rattle.rx_code.specs.Codes.{IsComparison}
+use Rattle.rx_code.specs.Codes.{IsComparison, IsLogical}
 
 -- a test, with what it says of a row at an assignment
 pub record Tests (α : ℕ → ℤ) (row : Row) (b : Bool) : Type 0 where
@@ -122,26 +125,63 @@ comparison_tests op p q row (code.unequal _ _) α =
     }
 
 -- a comparison gives the truth of its test
-pub comparison_value : (op : BinOp) (p q : Body) (row : Row) → IsComparison op p q row → (x y : ℤ) →
-    binary Unbounded op (Value x) (Value y) ≡ Value (truth (test_of op x y))
-comparison_value op p q row (code.less _ _) x y = refl
-comparison_value op p q row (code.at_most _ _) x y = refl
-comparison_value op p q row (code.greater _ _) x y = refl
-comparison_value op p q row (code.at_least _ _) x y = refl
-comparison_value op p q row (code.equal _ _) x y = refl
-comparison_value op p q row (code.unequal _ _) x y = refl
+pub comparison_value : (integers : Integers) (op : BinOp) (p q : Body) (row : Row) →
+    IsComparison op p q row → (x y : ℤ) →
+    binary integers op (Value x) (Value y) ≡ Value (truth (test_of op x y))
+comparison_value integers op p q row (code.less _ _) x y = refl
+comparison_value integers op p q row (code.at_most _ _) x y = refl
+comparison_value integers op p q row (code.greater _ _) x y = refl
+comparison_value integers op p q row (code.at_least _ _) x y = refl
+comparison_value integers op p q row (code.equal _ _) x y = refl
+comparison_value integers op p q row (code.unequal _ _) x y = refl
 
--- 1 is not 0
-pub truth_zero : (b : Bool) → is_zero (truth b) ≡ not b
-truth_zero true = refl
-truth_zero false = refl
+pub comparison_outcome : (integers : Integers) (op : BinOp) (p q : Body) (row : Row)
+    (o u : Outcome ℤ) →
+    IsComparison op p q row → binary integers op o u ≡
+    on_value o (λ x. on_value u (λ y. binary integers op (Value x) (Value y)))
+comparison_outcome integers op p q row o u (code.less _ _) = refl
+comparison_outcome integers op p q row o u (code.at_most _ _) = refl
+comparison_outcome integers op p q row o u (code.greater _ _) = refl
+comparison_outcome integers op p q row o u (code.at_least _ _) = refl
+comparison_outcome integers op p q row o u (code.equal _ _) = refl
+comparison_outcome integers op p q row o u (code.unequal _ _) = refl
 
-pub comparison_outcome : (op : BinOp) (p q : Body) (row : Row) (o u : Outcome ℤ) →
-    IsComparison op p q row → binary Unbounded op o u ≡
-    on_value o (λ x. on_value u (λ y. binary Unbounded op (Value x) (Value y)))
-comparison_outcome op p q row o u (code.less _ _) = refl
-comparison_outcome op p q row o u (code.at_most _ _) = refl
-comparison_outcome op p q row o u (code.greater _ _) = refl
-comparison_outcome op p q row o u (code.at_least _ _) = refl
-comparison_outcome op p q row o u (code.equal _ _) = refl
-comparison_outcome op p q row o u (code.unequal _ _) = refl
+-- an outcome whose integer, if there is one, is 0 or 1
+abbrev pub Truthful : Outcome ℤ → Type 0
+Truthful (Value x) = x ≡ truth (not (is_zero x))
+Truthful (Error error) = Unit {0}
+Truthful More = Unit {0}
+
+truthful-truth : (b : Bool) → Truthful (Value (truth b))
+truthful-truth true = refl
+truthful-truth false = refl
+
+truthful-on : {A : Type 0} (o : Outcome A) (g : A → Outcome ℤ) → ((x : A) → Truthful (g x)) →
+    Truthful (on_value o g)
+truthful-on (Value x) g each = each x
+truthful-on (Error error) g each = tt
+truthful-on More g each = tt
+
+truthful-if : (t : Bool) (o u : Outcome ℤ) → Truthful o → Truthful u → Truthful (if t then o else u)
+truthful-if true o u first second = first
+truthful-if false o u first second = second
+
+pub logical_truthful : (integers : Integers) (calls : Calls) (e : Expr) (s : State) → IsLogical e →
+    Truthful (expr integers calls e s)
+logical_truthful integers calls e s (code.comparison op f g p q row is) =
+    subst Truthful (sym (expr-Binary integers calls op f g s ∙
+    comparison_outcome integers op p q row (expr integers calls f s) (expr integers calls g s) is))
+    (truthful-on (expr integers calls f s) _ (λ x. truthful-on (expr integers calls g s) _
+    (λ y. subst Truthful (sym (comparison_value integers op p q row is x y))
+    (truthful-truth (test_of op x y)))))
+logical_truthful integers calls e s (code.negation f) =
+    subst Truthful (sym (expr-Unary integers calls Sign.Not f s))
+    (truthful-on (expr integers calls f s) _ (λ x. truthful-truth (is_zero x)))
+logical_truthful integers calls e s (code.conjunction f g) =
+    subst Truthful (sym (expr-Binary integers calls Op.AndAlso f g s))
+    (truthful-on (expr integers calls f s) _ (λ x. truthful-if (is_zero x) _ _ refl
+    (truthful-on (expr integers calls g s) _ (λ y. truthful-truth (not (is_zero y))))))
+logical_truthful integers calls e s (code.disjunction f g) =
+    subst Truthful (sym (expr-Binary integers calls Op.OrElse f g s))
+    (truthful-on (expr integers calls f s) _ (λ x. truthful-if (is_zero x) _ _
+    (truthful-on (expr integers calls g s) _ (λ y. truthful-truth (not (is_zero y)))) refl))

@@ -31,6 +31,7 @@ use Rattle.c_ast.specs.declared.expr.BinOp.TheVariants as bin
 use Rattle.c_ast.specs.declared.program.Function.{Function}
 use Rattle.c_ast.proofs.CallEquations.{calls-Lit, calls-Var, calls-Binary, calls-Apply, calls_in-Break, calls_in-While, calls_in-Return}
 use Rattle.c_ast.proofs.ScopedEquations.{scoped_equations}
+use Rattle.c_ast.specs.declared.integers.Integers.{Integers}
 use Rattle.c_ast.specs.declared.integers.Integers.TheVariants.{Unbounded}
 use Rattle.c_meaning.specs.Outcomes.{Division, Value, Error}
 use Rattle.c_meaning.specs.Programs.{Returns}
@@ -148,13 +149,15 @@ pair n ts m us =
           (d.within && true);
     }
 
-pub both_code : (f g : Function) {ts us : List Compiled} → StmtsAre f.body ts → StmtsAre g.body us →
-    places_code (f ∷ g ∷ []) both 0 ≡ pair (length f.params) ts (length g.params) us
-both_code f g p q i = pair (length f.params) (p.are i) (length g.params) (q.are i)
+pub both_code : (integers : Integers) (f g : Function) {ts us : List Compiled} →
+    StmtsAre integers f.body ts → StmtsAre integers g.body us →
+    places_code integers (f ∷ g ∷ []) both 0 ≡ pair (length f.params) ts (length g.params) us
+both_code integers f g p q i = pair (length f.params) (p.are i) (length g.params) (q.are i)
 
-pub compiled : program_code example both ≡ record { form = example_code; within = true }
+pub compiled : program_code Unbounded example both ≡ record { form = example_code; within = true }
 compiled =
-    both_code inverse last (statement (returns (binary bin.Div (lit (pos 1)) (var 0))) no_statement)
+    both_code Unbounded inverse last (statement (returns (binary bin.Div (lit (pos 1)) (var 0)))
+    no_statement)
     (statement (while_loop (var 0) (breaks 0))
     (statement (returns (apply 0 (argument (var 0) no_argument))) no_statement))
 
@@ -212,7 +215,7 @@ instructions_within = ap (λ b. b && true) quotient_within
 
 -- ---- the translation
 
-pub example_translated : IsTranslation example 1 0 example_parts (symbol 3) (symbol 0)
+pub example_translated : IsTranslation Unbounded example 1 0 example_parts (symbol 3) (symbol 0)
 example_translated = record {
   first_there = omega arith;
   second_there = omega arith;
@@ -222,7 +225,7 @@ example_translated = record {
       ap (λ (c : Formed Code). c.within && list_all instruction_within c.form.instructions) compiled
       ∙
       instructions_within;
-  parts_are = sym (ap (λ (c : Formed Code). rule_set.parts_of c.form) compiled);
+  parts_are = sym (ap (λ (c : Formed Code). rule_set.parts_of Unbounded c.form) compiled);
   first_is = sym (ap (λ (c : Formed Code). symbol (entry_of c.form.entries 1)) compiled);
   second_is = sym (ap (λ (c : Formed Code). symbol (entry_of c.form.entries 0)) compiled);
 }
@@ -235,9 +238,10 @@ last_at_one = record { enough = 2; outcome = simp equations; is_answer = tt }
 last_at_zero : Returns Unbounded example 1 (pos 0 ∷ []) (Error Division)
 last_at_zero = record { enough = 2; outcome = simp equations; is_answer = tt }
 
-agrees : AgreeOn example example_parts.rules 1 3
+agrees : AgreeOn Unbounded example example_parts.rules 1 3
 agrees =
-    first_agrees example example_scoped 1 0 example_parts (symbol 3) (symbol 0) example_translated
+    first_agrees Unbounded example example_scoped 1 0 example_parts (symbol 3) (symbol 0)
+    example_translated
 
 pub returned_integer : Reaches (Instance example_parts.rules) (stack.Call 3 (pos 1 ∷ []))
     (stack.Return (pos 1))

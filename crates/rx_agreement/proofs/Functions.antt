@@ -2,6 +2,7 @@
 use Rattle.std.proofs.Common.{◌≡◌, ◌∙◌, ap, subst, ℕ, ℤ, true, List, Some, length}
 use Rattle.std.specs.Prelude.{slice_get}
 use Rattle.c_ast.specs.Scoped.{is_scoped, parameter_counts}
+use Rattle.c_ast.specs.declared.integers.Integers.{Integers}
 use Rattle.c_ast.specs.declared.program.Resolved.{Resolved}
 use Rattle.rx_rewriting.specs.Premises.{HaveConvertibleNormalForms}
 use Rattle.rx_rewriting.specs.Steps.{Reaches}
@@ -48,20 +49,20 @@ reached_from parts s t u v is_u is_v ends = record {
   convertible = ends.convertible;
 }
 
-pub proof_returns_alike : (program : Resolved) → is_scoped program ≡ true →
+pub proof_returns_alike : (integers : Integers) (program : Resolved) → is_scoped program ≡ true →
     (f g : ℕ) (parts : RuleParts) (first second : Sym) →
-    IsTranslation program f g parts first second
+    IsTranslation integers program f g parts first second
     → (arguments : List ℤ) (rows : List Row) → slice_get (parameter_counts program.functions) f ≡
     Some (length arguments) → slice_get (parameter_counts program.functions) g ≡
     Some (length arguments)
     → AllHold (assigned arguments) rows → (hypotheses : List Rule) (table : RankTable) →
     IsProof parts (goal_at first second (length arguments) rows) hypotheses table →
-    ReturnAlike program f g arguments
-proof_returns_alike program scoped f g parts first second t arguments rows count also holds
+    ReturnAlike integers program f g arguments
+proof_returns_alike integers program scoped f g parts first second t arguments rows count also holds
     hypotheses table proof =
     let goal = goal_at first second (length arguments) rows in
     let a = assigned arguments in
-    return_alike program scoped f g parts first second t arguments count also
+    return_alike integers program scoped f g parts first second t arguments count also
     (reached_from parts (ground_at a goal.left) (ground_at a goal.right)
     (stack.Call first.0 arguments) (stack.Call second.0 arguments)
     (entry_at first arguments) (entry_at second arguments)

@@ -1,10 +1,13 @@
 -- Where runs lead, composed.
 use Rattle.std.proofs.Common.{◌≡◌, ℕ, zero, suc, ◌+◌, ◌*◌, subst, arith}
+use Rattle.std.specs.Prelude.{Contains}
 use Rattle.rx_rewriting.specs.Terms as stack
 use Rattle.rx_rewriting.specs.Terms.{Ground, Relation}
 use Rattle.rx_rewriting.specs.Steps.{Step, ReachesIn, NoStep, OneMore}
 use Rattle.rx_rewriting.proofs.Chains.{ReachesIn-trans}
 use Rattle.c_meaning.specs.Outcomes.{Outcome, Value, Error, More, on_value}
+use Rattle.c_ast.specs.declared.integers.Integers.{Integers}
+use Rattle.rx_code.specs.Rules.{failure_codes}
 use Rattle.rx_agreement.specs.Agreement.{code_of}
 use Rattle.rx_agreement.proofs.Runs.{Runs, RunsOn, Long}
 
@@ -50,11 +53,13 @@ module _ (R : Relation) (w : ℕ) where
             omega (arith, e, long.enough);
       }
 
-  -- where an outcome leads: a value as P says, an error to its failure, which is the one that
+module _ (integers : Integers) (R : Relation) (w : ℕ) where
+  -- where an outcome leads: a value as P says, an error to its failure, which is one that
   -- frames hand on, and 'more' to a long run
   abbrev pub Leads : {A : Type 0} → ℕ → ℕ → Ground → (A → Type 0) → Outcome A → Type 0
   Leads m h start P (Value x) = P x
-  Leads m h start P (Error e) = (code_of e ≡ 1) × Runs R w start (stack.Fail (code_of e))
+  Leads m h start P (Error e) =
+      Contains (failure_codes integers) (code_of e) × Runs R w start (stack.Fail (code_of e))
   Leads m h start P More = Long R w m h start
 
   -- goes on from a value
@@ -71,5 +76,5 @@ module _ (R : Relation) (w : ℕ) where
       (o : Outcome B)
       → Runs R w start middle → ((y : B) → P y → Q y) → Leads m h middle P o → Leads m h start Q o
   leads-after m h start middle P Q (Value x) run wider there = wider x there
-  leads-after m h start middle P Q (Error e) run wider there = (there.0, run-trans run there.1)
-  leads-after m h start middle P Q More run wider there = long-after run there
+  leads-after m h start middle P Q (Error e) run wider there = (there.0, run-trans R w run there.1)
+  leads-after m h start middle P Q More run wider there = long-after R w run there

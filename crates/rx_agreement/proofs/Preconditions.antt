@@ -155,7 +155,7 @@ module _ (s : State) where
         outcome =
             λ calls. expr-Binary Unbounded calls op e f s ∙
             (λ i. binary Unbounded op (left calls i) (right calls i)) ∙
-            comparison_value op (polynomial e) (polynomial f) row is x y;
+            comparison_value Unbounded op (polynomial e) (polynomial f) row is x y;
         hold =
             λ yes. subst (AllHold α) (sym rows_are)
             (All-cons (RowHolds α) row [] (tests.holds yes) (All-nil (RowHolds α)));

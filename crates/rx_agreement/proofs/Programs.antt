@@ -11,7 +11,7 @@ use Rattle.rx_rewriting.proofs.Chains.{ReachesIn-reaches, Reaches-counted}
 use Rattle.rx_rewriting.proofs.UniqueResults.{result_in_rest, reached_from_result}
 use Rattle.c_ast.specs.declared.program.Function.{Function}
 use Rattle.c_ast.specs.declared.program.Resolved.{Resolved}
-use Rattle.c_ast.specs.declared.integers.Integers.TheVariants.{Unbounded}
+use Rattle.c_ast.specs.declared.integers.Integers.{Integers}
 use Rattle.c_meaning.specs.Outcomes.{Failure, Division, Range, Outcome, Value, Error, More, on_value, IsAnswer, State, Flow, Next, Break, Continue, Return}
 use Rattle.c_meaning.specs.Statements.{Rounds, in_order, stmt}
 use Rattle.c_meaning.specs.Programs.{returned, body_outcome, rounds, call_outcome, Returns}
@@ -22,19 +22,21 @@ use Rattle.rx_code.specs.declared.action.Action.TheVariants as does_at
 use Rattle.rx_code.specs.declared.point.Point.{Point}
 use Rattle.rx_code.specs.Codes.{HasCode}
 use Rattle.rx_agreement.specs.Agreement.{code_of, result_of}
+use Rattle.rx_agreement.proofs.Flows.{Executes}
 use Rattle.rx_agreement.proofs.Loops.{loops, total}
 use Rattle.rx_agreement.proofs.Runs.{Runs, Long}
 use Rattle.rx_agreement.proofs.Leads.{Leads, run-step, run-trans, on-run}
-use Rattle.rx_agreement.proofs.Statements.{Fine, CallsRun, Executes, list_runs, no_round, one_round, calls_run}
+use Rattle.rx_agreement.proofs.Statements.{Fine, CallsRun, list_runs, no_round, one_round, calls_run}
 use Rattle.std.proofs.Math.Seq.{take-length}
 
 -- the function at the place is there, with n parameters, and its code is where its entry is
-pub record IsCompiled (acts : Actions) (callable : ℕ → ℕ → Type 0) (program : Resolved)
+pub record IsCompiled (integers : Integers) (acts : Actions) (callable : ℕ → ℕ → Type 0)
+    (program : Resolved)
     (entry : ℕ → ℕ) (f count : ℕ) : Type 0 where
   pub function : Function
   pub stands : slice_get program.functions f ≡ Some function
   pub counted : count ≡ length function.params
-  pub code : HasCode acts callable function (entry f)
+  pub code : HasCode integers acts callable function (entry f)
 
 less_times : (i j w : ℕ) → i ≤ j → i * w ≤ j * w
 less_times zero j w below = omega arith
@@ -48,9 +50,10 @@ same_error Division Range same = absurd (omega arith)
 same_error Range Division same = absurd (omega arith)
 same_error Range Range same = refl
 
-module _ (R : Relation) (program : Resolved) (entry : ℕ → ℕ) (may : ℕ → ℕ → Type 0) (acts : Actions)
-    (does : DoAll R entry acts)
-    (coded : (f count : ℕ) → may f count → IsCompiled acts may program entry f count)
+module _ (integers : Integers) (R : Relation) (program : Resolved) (entry : ℕ → ℕ)
+    (may : ℕ → ℕ → Type 0) (acts : Actions)
+    (does : DoAll integers R entry acts)
+    (coded : (f count : ℕ) → may f count → IsCompiled integers acts may program entry f count)
     (w : ℕ) (bounded : (f : ℕ) (function : Function) → slice_get program.functions f ≡
     Some function → total (map loops function.body) < w) (positive : 0 < w) where
   -- the end of a body
@@ -66,8 +69,9 @@ module _ (R : Relation) (program : Resolved) (entry : ℕ → ℕ) (may : ℕ �
 
   ends_value : (m h : ℕ) (start : Ground) (n k : ℕ) (end : Point) (o : Outcome Flow) → end.width ≡
       0 → acts end (does_at.Return (number (pos 0))) → suc h ≤ w
-      → Executes R entry acts may does w positive m h start n k end end end o →
-      Leads R w (suc m) w start (λ v. Runs R w start (stack.Return v)) (on_value o returned)
+      → Executes integers R w m h start n k end end end o →
+      Leads integers R w (suc m) w start (λ v. Runs R w start (stack.Return v))
+      (on_value o returned)
   ends_value m h start n k end (Value (Next s)) none act below there =
       run-trans R w there.0 (zero_at_end end s none act)
   ends_value m h start n k end (Value (Break s)) none act below there =
@@ -85,9 +89,9 @@ module _ (R : Relation) (program : Resolved) (entry : ℕ → ℕ) (may : ℕ �
             there.enough in omega (arith, e, below);
       }
 
-  body_runs : (r : Rounds) (m : ℕ) → Fine R entry acts may does w positive r m →
-      CallsRun R entry acts may does w positive (suc m)
-      (λ f. body_outcome Unbounded (slice_get program.functions f) r)
+  body_runs : (r : Rounds) (m : ℕ) → Fine integers R entry acts may does w positive r m →
+      CallsRun integers R entry acts may does w positive (suc m)
+      (λ f. body_outcome integers (slice_get program.functions f) r)
   body_runs r m fine f args called =
       let there = coded f (length args) called in
       let body = there.function.body in
@@ -98,34 +102,37 @@ module _ (R : Relation) (program : Resolved) (entry : ℕ → ℕ) (may : ℕ �
       let enough : length there.function.params ≤ length args = omega (arith, long) in
       let none : end.width ≤ length there.function.params = let e = code.no_variables in
       omega (arith, e) in
-      let runs = list_runs R entry acts may does w positive (length there.function.params) body
+      let runs = list_runs integers R entry acts may does w positive (length there.function.params)
+      body
       code.slots first end end end code.body
       (record { breaks = none; continues = none }) r m fine args refl enough in
       let at : at_point first args ≡ stack.Call (entry f) args =
       ap (stack.Call (entry f)) (ap (λ k. take k args) (sym long) ∙ take-length args) in
-      let P : Ground → Type 0 = λ g. Executes R entry acts may does w positive m
+      let P : Ground → Type 0 = λ g. Executes integers R w m
       (total (map loops body)) g (length there.function.params) code.slots end end end
-      (in_order (map (stmt Unbounded) body) r args) in
+      (in_order (map (stmt integers) body) r args) in
       let Q : Option Function → Type 0 = λ o.
-      Leads R w (suc m) w (stack.Call (entry f) args)
+      Leads integers R w (suc m) w (stack.Call (entry f) args)
       (λ k. Runs R w (stack.Call (entry f) args) (stack.Return k))
-      (body_outcome Unbounded o r args) in
+      (body_outcome integers o r args) in
       subst Q (sym there.stands)
       (ends_value m (total (map loops body)) (stack.Call (entry f) args)
-      (length there.function.params) code.slots end (in_order (map (stmt Unbounded) body) r args)
+      (length there.function.params) code.slots end (in_order (map (stmt integers) body) r args)
       code.no_variables code.returns_zero
       (let e = bounded f there.function there.stands in omega (arith, e)) (subst P at runs))
 
   -- the rounds of a program
-  fine_rounds : (n : ℕ) → Fine R entry acts may does w positive (rounds Unbounded program n) n
+  fine_rounds : (n : ℕ) → Fine integers R entry acts may does w positive (rounds integers program n)
+      n
   fine_rounds zero = no_round
   fine_rounds (suc n) =
-      one_round _ (rounds Unbounded program n) n
-      (body_runs (rounds Unbounded program n) n (fine_rounds n))
+      one_round _ (rounds integers program n) n
+      (body_runs (rounds integers program n) n (fine_rounds n))
       (fine_rounds n)
 
   answers_reach : (m : ℕ) (start : Ground) (r : Outcome ℤ) → IsAnswer r →
-      Leads R w m w start (λ v. Runs R w start (stack.Return v)) r → Reaches R start (result_of r)
+      Leads integers R w m w start (λ v. Runs R w start (stack.Return v)) r →
+      Reaches R start (result_of r)
   answers_reach m start (Value k) answer there = ReachesIn-reaches there.1
   answers_reach m start (Error e) answer there = ReachesIn-reaches there.1.1
   answers_reach m start More answer there = absurd answer
@@ -166,26 +173,27 @@ module _ (R : Relation) (program : Resolved) (entry : ℕ → ℕ) (may : ℕ �
   pub agree : IsSingleValued R → ResultsAreNormal R → (f : ℕ) (args : List ℤ) →
       may f (length args) →
       (r : Outcome ℤ) → IsAnswer r
-      → Returns Unbounded program f args r ↔ Reaches R (stack.Call (entry f) args) (result_of r)
+      → Returns integers program f args r ↔ Reaches R (stack.Call (entry f) args) (result_of r)
   agree single rest f args called r answer = (there, back)
     where
-      there : Returns Unbounded program f args r →
+      there : Returns integers program f args r →
           Reaches R (stack.Call (entry f) args) (result_of r)
       there returns =
           answers_reach returns.enough (stack.Call (entry f) args) r answer
-          (subst (Leads R w returns.enough w (stack.Call (entry f) args)
+          (subst (Leads integers R w returns.enough w (stack.Call (entry f) args)
           (λ v. Runs R w (stack.Call (entry f) args) (stack.Return v))) returns.outcome
-          (calls_run R entry acts may does w positive (rounds Unbounded program returns.enough)
+          (calls_run integers R entry acts may does w positive
+          (rounds integers program returns.enough)
           returns.enough
           (fine_rounds returns.enough) f args called))
 
       found : (n j : ℕ) (o : Outcome ℤ) → n ≡ suc (j * w + w) →
-          call_outcome Unbounded program n f args ≡ o →
+          call_outcome integers program n f args ≡ o →
           Reaches R (stack.Call (entry f) args) (result_of r)
           → ReachesIn R j (stack.Call (entry f) args) (result_of r)
-          → Leads R w n w (stack.Call (entry f) args)
+          → Leads integers R w n w (stack.Call (entry f) args)
           (λ v. Runs R w (stack.Call (entry f) args) (stack.Return v)) o →
-          Returns Unbounded program f args r
+          Returns integers program f args r
       found n j (Value k) is outcome reaches counted runs =
           let e : Value k ≡ r = same_result (Value k) r tt answer
           (two_results (stack.Call (entry f) args) (stack.Return k) (result_of r) single rest tt
@@ -202,11 +210,12 @@ module _ (R : Relation) (program : Resolved) (entry : ℕ → ℕ) (may : ℕ �
           runs))
 
       back : Reaches R (stack.Call (entry f) args) (result_of r) →
-          Returns Unbounded program f args r
+          Returns integers program f args r
       back reaches =
           let (j, counted) = Reaches-counted reaches in
           let n = suc (j * w + w) in
-          found n j (call_outcome Unbounded program n f args) refl refl reaches counted
-          (calls_run R entry acts may does w positive (rounds Unbounded program n) n (fine_rounds n)
+          found n j (call_outcome integers program n f args) refl refl reaches counted
+          (calls_run integers R entry acts may does w positive (rounds integers program n) n
+          (fine_rounds n)
           f args
           called)

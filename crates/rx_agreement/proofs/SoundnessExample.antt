@@ -28,6 +28,7 @@ use Rattle.rx_term.specs.declared.term.Term.{Term}
 use Rattle.rx_term.specs.declared.term.Term.TheVariants.{Call, Return, outs-Call, outs-Return}
 use Rattle.rx_term.proofs.Equations.{arguments-Call, arguments-Return, below-Return, depth-Call, depth-Return, fits-Call, fits-Return, subst_term-Return, redex-Call, shape-Call, shape-Return, within-Return}
 use Rattle.rx_plain.proofs.Kept.{first_one, first_or_other, other_one}
+use Rattle.c_ast.specs.declared.integers.Integers.TheVariants.{Unbounded}
 use Rattle.c_ast.specs.declared.program.Function.{Function}
 use Rattle.c_ast.specs.Scoped.{is_scoped}
 use Rattle.c_ast.proofs.ScopedEquations.{scoped_equations}
@@ -138,19 +139,19 @@ pair n ts m us =
 abbrev of_code : Formed Code → Formed RuleParts
 of_code c =
     record {
-      form = parts_of c.form;
+      form = parts_of Unbounded c.form;
       within = c.within && list_all instruction_within
           c.form.instructions;
     }
 
-translated : rules_of example both ≡ record { form = parts; within = true }
+translated : rules_of Unbounded example both ≡ record { form = parts; within = true }
 translated =
-    ap of_code (both_code a b (statement (returning (lit (pos 0))) no_statement)
+    ap of_code (both_code Unbounded a b (statement (returning (lit (pos 0))) no_statement)
     (statement (returning (lit (pos 0))) no_statement))
 
-pub example_translated : IsTranslation example 0 1 parts first second
+pub example_translated : IsTranslation Unbounded example 0 1 parts first second
 example_translated =
-    let whole = both_code a b (statement (returning (lit (pos 0))) no_statement)
+    let whole = both_code Unbounded a b (statement (returning (lit (pos 0))) no_statement)
     (statement (returning (lit (pos 0))) no_statement) in
     record {
       first_there = omega arith;

@@ -1,7 +1,7 @@
 -- What code of statements does.
-use Rattle.std.proofs.Common.{◌≡◌, ℕ, zero, suc, ◌+◌, ◌*◌, ◌≤◌, ◌<◌, Bool, true, false, if◌then◌else◌, Option, None, Some, List, [], ◌∷◌, ◌++◌, length, map, take, refl, sym, ap, subst, ◌∙◌, ◌⊎◌, inl, inr, ℤ, pos, arith, length-append}
+use Rattle.std.proofs.Common.{◌≡◌, ℕ, zero, suc, ◌+◌, ◌*◌, ◌≤◌, ◌<◌, if◌then◌else◌, Option, None, Some, List, [], ◌∷◌, ◌++◌, length, map, take, refl, sym, ap, subst, ◌∙◌, ◌⊎◌, inl, inr, ℤ, pos, arith, length-append}
 use Rattle.std.specs.Prelude.{slice_set}
-use Rattle.std.proofs.lemmas.List.{length-take-le, length-take, append-nil, length-set}
+use Rattle.std.proofs.lemmas.List.{length-take-le, append-nil, length-set}
 use Rattle.rx_poly.specs.Constants.{number}
 use Rattle.rx_poly.specs.Value.{value}
 use Rattle.rx_poly.specs.declared.body.Body.{Body}
@@ -13,8 +13,8 @@ use Rattle.rx_rewriting.proofs.Chains.{ReachesIn-trans}
 use Rattle.c_ast.specs.declared.expr.Expr.{Expr}
 use Rattle.c_ast.specs.declared.stmt.Stmt.{Stmt}
 use Rattle.c_ast.specs.declared.stmt.Stmt.TheVariants as Syntax
-use Rattle.c_ast.specs.declared.integers.Integers.TheVariants.{Unbounded}
-use Rattle.c_meaning.specs.Outcomes.{Outcome, Value, Error, More, on_value, State, Flow, Next, Break, Continue, Return}
+use Rattle.c_ast.specs.declared.integers.Integers.{Integers}
+use Rattle.c_meaning.specs.Outcomes.{Outcome, Value, Error, More, on_value, State, Flow, Next, Return}
 use Rattle.c_meaning.specs.Expressions.{Calls, is_zero, expr}
 use Rattle.c_meaning.specs.Statements.{Rounds, calls_with, optional, on_next, in_order, leave, Turn, Again, Ends, on_again, loop, after_body, after_change, condition, while_turn, do_turn, stmt}
 use Rattle.c_meaning.proofs.Equations as means
@@ -26,24 +26,26 @@ use Rattle.rx_code.specs.declared.action.Action.TheVariants as does_at
 use Rattle.rx_code.specs.declared.point.Point.{Point}
 use Rattle.rx_code.specs.Codes as code
 use Rattle.rx_code.specs.Codes.{IsValue, IsCondition, IsStatement, IsList, IsBegun, IsChange, test_or_one}
+use Rattle.rx_agreement.proofs.Flows.{Executes, Flowed, Turned, Turning, branches, changes, do_runs, executes-fewer, flowed-after, jump_same, last_is, leads-wider, leaves, long-wider, nexts, while_runs}
 use Rattle.rx_agreement.proofs.Loops.{loops, of_part, total}
 use Rattle.std.specs.Prelude.{option_map}
-use Rattle.rx_agreement.proofs.Runs.{Runs, RunsOn, Long, Comes, Forked, Branch, Over}
-use Rattle.rx_code.proofs.Lists.{take-take, assigned-take, take-with_element, with_element-end-is, take-with_element-set}
-use Rattle.rx_agreement.proofs.Leads.{Leads, run-none, run-step, run-trans, run-on, on-run, on-then, leads-after, times_sum}
+use Rattle.rx_agreement.proofs.Runs.{Runs, RunsOn, Long, Comes, Forked, Over}
+use Rattle.rx_code.proofs.Lists.{assigned-take, take-with_element, with_element-end-is, take-with_element-set}
+use Rattle.rx_agreement.proofs.Leads.{Leads, run-none, run-step, run-trans, on-run, times_sum}
 use Rattle.rx_agreement.proofs.LoopCounts as count
 use Rattle.rx_agreement.proofs.Values.{value_runs, condition_runs}
 
 at_least : (j w : ℕ) → w ≤ suc j * w
 at_least j w = omega arith
 
-module _ (R : Relation) (entry : ℕ → ℕ) (acts : Actions) (callable : ℕ → ℕ → Type 0)
-    (does : DoAll R entry acts) (w : ℕ) (positive : 0 < w) where
+module _ (integers : Integers) (R : Relation) (entry : ℕ → ℕ) (acts : Actions)
+    (callable : ℕ → ℕ → Type 0)
+    (does : DoAll integers R entry acts) (w : ℕ) (positive : 0 < w) where
   -- calls do with m rounds what the rules do from the entries
   abbrev pub CallsRun : ℕ → Calls → Type 0
   CallsRun m calls =
       (f : ℕ) (args : List ℤ) → callable f (length args) →
-      Leads R w m w (stack.Call (entry f) args)
+      Leads integers R w m w (stack.Call (entry f) args)
       (λ k. Runs R w (stack.Call (entry f) args) (stack.Return k)) (calls f args)
 
   -- n rounds, with each of which calls do so
@@ -56,45 +58,6 @@ module _ (R : Relation) (entry : ℕ → ℕ) (acts : Actions) (callable : ℕ �
   calls_run r m no_round f args may =
       record { steps = 0; end = stack.Call (entry f) args; run = NoStep; enough = omega arith }
   calls_run r m (one_round call left n fine rest) f args may = fine f args may
-
-  long-wider : (m h g : ℕ) (s : Ground) → h ≤ g → Long R w m h s → Long R w m g s
-  long-wider m h g s below long =
-      record {
-        steps = long.steps;
-        end = long.end;
-        run = long.run;
-        enough = let e = long.enough in
-            omega (arith, e, below);
-      }
-
-  leads-wider : {A : Type 0} (m h g : ℕ) (s : Ground) (P : A → Type 0) (o : Outcome A) → h ≤ g →
-      Leads R w m h s P o → Leads R w m g s P o
-  leads-wider m h g s P (Value x) below there = there
-  leads-wider m h g s P (Error error) below there = there
-  leads-wider m h g s P More below there = long-wider m h g s below there
-
-  -- where a statement leads
-  abbrev pub Flowed : Ground → ℕ → ℕ → Point → Point → Point → Flow → Type 0
-  Flowed start n k z B K (Next s) = Runs R w start (at_point z s) × (k ≤ length s)
-  Flowed start n k z B K (Break s) = Runs R w start (at_point B s) × (n ≤ length s)
-  Flowed start n k z B K (Continue s) = Runs R w start (at_point K s) × (n ≤ length s)
-  Flowed start n k z B K (Return x) = Runs R w start (stack.Return x)
-
-  abbrev pub Executes : ℕ → ℕ → Ground → ℕ → ℕ → Point → Point → Point → Outcome Flow → Type 0
-  Executes m h start n k z B K o = Leads R w m h start (Flowed start n k z B K) o
-
-  flowed-after : (start middle : Ground) (n k : ℕ) (z B K : Point) → Runs R w start middle →
-      (f : Flow) → Flowed middle n k z B K f → Flowed start n k z B K f
-  flowed-after start middle n k z B K run (Next s) there = (run-trans R w run there.0, there.1)
-  flowed-after start middle n k z B K run (Break s) there = (run-trans R w run there.0, there.1)
-  flowed-after start middle n k z B K run (Continue s) there = (run-trans R w run there.0, there.1)
-  flowed-after start middle n k z B K run (Return x) there = run-trans R w run there
-
-  executes-after : (m h : ℕ) (start middle : Ground) (n k : ℕ) (z B K : Point) (o : Outcome Flow) →
-      Runs R w start middle → Executes m h middle n k z B K o → Executes m h start n k z B K o
-  executes-after m h start middle n k z B K o run there =
-      leads-after R w m h start middle (Flowed middle n k z B K) (Flowed start n k z B K) o run
-      (flowed-after start middle n k z B K run) there
 
   -- a state of at least n slots, at a point
   over_state : (n : ℕ) (a : Point) (s : State) → a.width ≡ n → n ≤ length s →
@@ -109,11 +72,6 @@ module _ (R : Relation) (entry : ℕ → ℕ) (acts : Actions) (callable : ℕ �
       length (take a.width s) ≡ a.width
   long_state n a s same enough = length-take-le a.width s (omega (arith, same, enough))
 
-  -- a jump from a point on a state
-  jump_same : (a z : Point) (s : State) → z.width ≤ a.width → at_point z (take a.width s) ≡
-      at_point z s
-  jump_same a z s fits = ap (stack.Call z.symbol) (take-take z.width a.width s fits)
-
   goes : (a z : Point) (s : State) (n : ℕ) → acts a (Go z) → a.width ≡ n → n ≤ length s → z.width ≤
       n → Runs R w (at_point a s) (at_point z s)
   goes a z s n act same enough fits =
@@ -123,45 +81,22 @@ module _ (R : Relation) (entry : ℕ → ℕ) (acts : Actions) (callable : ℕ �
 
   -- the value of an expression, from a point on a state
   evaluates : (r : Rounds) (m : ℕ) → Fine r m → (n : ℕ) (e : Expr) (a b : Point) (p : Body) →
-      IsValue acts callable n e a b p → (s : State) → a.width ≡ n → n ≤ length s
-      → Leads R w m 0 (at_point a s) (Comes R w a b (take a.width s) p)
-      (expr Unbounded (calls_with r) e s)
+      IsValue integers acts callable n e a b p → (s : State) → a.width ≡ n → n ≤ length s
+      → Leads integers R w m 0 (at_point a s) (Comes R w a b (take a.width s) p)
+      (expr integers (calls_with r) e s)
   evaluates r m fine n e a b p is s same enough =
-      value_runs R entry acts callable does w n m (calls_with r) (calls_run r m fine) e a b p is s
+      value_runs integers R entry acts callable does w n m (calls_with r) (calls_run r m fine) e a b
+      p is s
       (take a.width s) (over_state n a s same enough) (long_state n a s same enough)
 
   decides : (r : Rounds) (m : ℕ) → Fine r m → (n : ℕ) (e : Expr) (a y z : Point) →
-      IsCondition acts callable n e a y z → (s : State) → a.width ≡ n → n ≤ length s
-      → Leads R w m 0 (at_point a s) (Forked R w (at_point a s) y z (take a.width s))
-      (expr Unbounded (calls_with r) e s)
+      IsCondition integers acts callable n e a y z → (s : State) → a.width ≡ n → n ≤ length s
+      → Leads integers R w m 0 (at_point a s) (Forked R w (at_point a s) y z (take a.width s))
+      (expr integers (calls_with r) e s)
   decides r m fine n e a y z is s same enough =
-      condition_runs R entry acts callable does w n m (calls_with r) (calls_run r m fine) e a y z is
+      condition_runs integers R entry acts callable does w n m (calls_with r) (calls_run r m fine) e
+      a y z is
       s (take a.width s) (over_state n a s same enough) (long_state n a s same enough)
-
-  -- a condition decides between two statements
-  branches : (m h : ℕ) (n : ℕ) (a y x z B K : Point) (s : State) (k : ℕ) (o : Outcome ℤ)
-      (then_ else_ : Outcome Flow) → a.width ≡ n → y.width ≤ n → x.width ≤ n
-      → Leads R w m 0 (at_point a s) (Forked R w (at_point a s) y x (take a.width s)) o
-      → Executes m h (at_point y s) n k z B K then_ → Executes m h (at_point x s) n k z B K else_
-      → Executes m h (at_point a s) n k z B K (on_value o (λ v. if is_zero v then else_ else then_))
-  branches m h n a y x z B K s k (Value v) then_ else_ same fits_y fits_x fork first second =
-      go (is_zero v) fork
-    where
-      go : (t : Bool) → Branch t (RunsOn R w (at_point a s) (at_point x (take a.width s)))
-          (RunsOn R w (at_point a s) (at_point y (take a.width s)))
-          → Executes m h (at_point a s) n k z B K (if t then else_ else then_)
-      go true there =
-          executes-after m h (at_point a s) (at_point x s) n k z B K else_
-          (on-run R w (subst (RunsOn R w (at_point a s))
-          (jump_same a x s (omega (arith, same, fits_x))) there)) second
-      go false there =
-          executes-after m h (at_point a s) (at_point y s) n k z B K then_
-          (on-run R w (subst (RunsOn R w (at_point a s))
-          (jump_same a y s (omega (arith, same, fits_y))) there)) first
-  branches m h n a y x z B K s k (Error error) then_ else_ same fits_y fits_x there first second =
-      there
-  branches m h n a y x z B K s k More then_ else_ same fits_y fits_x there first second =
-      long-wider m 0 h (at_point a s) (omega arith) there
 
   -- a value is set
   sets : (n v : ℕ) (a b z : Point) (s : State) (p : Body) (x : ℤ) → acts b (Set v p z) → a.width ≡
@@ -187,90 +122,13 @@ module _ (R : Relation) (entry : ℕ → ℕ) (acts : Actions) (callable : ℕ �
       run-trans R w come.run (subst (Runs R w (stack.Call b.symbol (xs ++ come.more))) e
       (on-run R w (run-step R w step)))
 
-  -- fewer slots after it
-  flowed-fewer : (start : Ground) (n k l : ℕ) (z B K : Point) → l ≤ k → (f : Flow) →
-      Flowed start n k z B K f → Flowed start n l z B K f
-  flowed-fewer start n k l z B K below (Next s) there =
-      (there.0, let e = there.1 in omega (arith, e, below))
-  flowed-fewer start n k l z B K below (Break s) there = there
-  flowed-fewer start n k l z B K below (Continue s) there = there
-  flowed-fewer start n k l z B K below (Return x) there = there
-
-  executes-fewer : (m h : ℕ) (start : Ground) (n k l : ℕ) (z B K : Point) (o : Outcome Flow) → l ≤
-      k → Executes m h start n k z B K o → Executes m h start n l z B K o
-  executes-fewer m h start n k l z B K o below there =
-      leads-after R w m h start start (Flowed start n k z B K) (Flowed start n l z B K) o
-      (run-none R w start) (flowed-fewer start n k l z B K below) there
-
-  -- the end of a scope
-  flowed-leave : (start : Ground) (n i count : ℕ) (z B K : Point) → n ≤ i → n ≤ count → z.width ≤
-      n → B.width ≤ n → K.width ≤ n → (f : Flow) → Flowed start n i z B K f
-      → Leads R w 0 0 start (Flowed start n n z B K) (leave count f)
-  flowed-leave start n i count z B K below enough fits_z fits_B fits_K (Next s) there = (
-    subst (Runs R w start) (ap (stack.Call z.symbol)
-        (sym (take-take z.width count s (omega (arith, fits_z, enough))))) there.0,
-    let e = length-take count s in let h = there.1 in omega (arith, e, h, below, enough),
-  )
-  flowed-leave start n i count z B K below enough fits_z fits_B fits_K (Break s) there = (
-    subst (Runs R w start) (ap (stack.Call B.symbol)
-        (sym (take-take B.width count s (omega (arith, fits_B, enough))))) there.0,
-    let e = length-take count s in let h = there.1 in omega (arith, e, h, below, enough),
-  )
-  flowed-leave start n i count z B K below enough fits_z fits_B fits_K (Continue s) there = (
-    subst (Runs R w start) (ap (stack.Call K.symbol)
-        (sym (take-take K.width count s (omega (arith, fits_K, enough))))) there.0,
-    let e = length-take count s in let h = there.1 in omega (arith, e, h, below, enough),
-  )
-  flowed-leave start n i count z B K below enough fits_z fits_B fits_K (Return x) there = there
-
-  leaves : (m h : ℕ) (start : Ground) (n i count : ℕ) (z B K : Point) → n ≤ i → n ≤ count →
-      z.width ≤ n → B.width ≤ n → K.width ≤ n → (o : Outcome Flow) → Executes m h start n i z B K o
-      → Executes m h start n n z B K (on_value o (leave count))
-  leaves m h start n i count z B K below enough fits_z fits_B fits_K (Value f) there =
-      go f (flowed-leave start n i count z B K below enough fits_z fits_B fits_K f there)
-    where
-      go : (f : Flow) → Leads R w 0 0 start (Flowed start n n z B K) (leave count f) →
-          Executes m h start n n z B K (leave count f)
-      go (Next s) done = done
-      go (Break s) done = done
-      go (Continue s) done = done
-      go (Return x) done = done
-  leaves m h start n i count z B K below enough fits_z fits_B fits_K (Error error) there = there
-  leaves m h start n i count z B K below enough fits_z fits_B fits_K More there = there
-
-  -- one statement after another
-  nexts : (m h : ℕ) (start : Ground) (n k l : ℕ) (c z B K : Point) (o : Outcome Flow)
-      (rest : State → Outcome Flow) → n ≤ k → Executes m h start n k c B K o
-      → ((s : State) → k ≤ length s → Executes m h (at_point c s) k l z B K (rest s)) →
-      Executes m h start n l z B K (on_value o (on_next rest))
-  nexts m h start n k l c z B K (Value (Next s)) rest below there each =
-      leads-after R w m h start (at_point c s) (Flowed (at_point c s) k l z B K)
-      (Flowed start n l z B K) (rest s) there.0
-      (λ f next. fewer f (flowed-after start (at_point c s) k l z B K there.0 f next))
-      (each s there.1)
-    where
-      fewer : (f : Flow) → Flowed start k l z B K f → Flowed start n l z B K f
-      fewer (Next s) there = there
-      fewer (Break s) there = (there.0, let e = there.1 in omega (arith, e, below))
-      fewer (Continue s) there = (there.0, let e = there.1 in omega (arith, e, below))
-      fewer (Return x) there = there
-  nexts m h start n k l c z B K (Value (Break s)) rest below there each = there
-  nexts m h start n k l c z B K (Value (Continue s)) rest below there each = there
-  nexts m h start n k l c z B K (Value (Return x)) rest below there each = there
-  nexts m h start n k l c z B K (Error error) rest below there each = there
-  nexts m h start n k l c z B K More rest below there each = there
-
-  -- where a turn of a loop leads
-  abbrev Turned : Ground → ℕ → Point → Point → Point → Point → Turn → Type 0
-  Turned start n head z B K (Again s) = RunsOn R w start (at_point head s) × (n ≤ length s)
-  Turned start n head z B K (Ends f) = Flowed start n n z B K f
-
   -- a loop, by its turns
   loops_run : (n h : ℕ) (head z B K : Point) (turn : Rounds → State → Outcome Turn)
       → ((r : Rounds) (m : ℕ) → Fine r m → (s : State) → n ≤ length s →
-      Leads R w m h (at_point head s) (Turned (at_point head s) n head z B K) (turn r s))
+      Leads integers R w m h (at_point head s) (Turned integers R w (at_point head s) n head z B K)
+      (turn r s))
       → (r : Rounds) (m : ℕ) → Fine r m → (s : State) → n ≤ length s →
-      Executes m (suc h) (at_point head s) n n z B K (loop turn r s)
+      Executes integers R w m (suc h) (at_point head s) n n z B K (loop turn r s)
   loops_run n h head z B K turn each r m no_round s enough =
       record { steps = 0; end = at_point head s; run = NoStep; enough = omega arith }
   loops_run n h head z B K turn each r m (one_round call left l fine rest) s enough =
@@ -301,18 +159,20 @@ module _ (R : Relation) (entry : ℕ → ℕ) (acts : Actions) (callable : ℕ �
           }
 
       again : (s' : State) → RunsOn R w (at_point head s) (at_point head s') → (o : Outcome Flow) →
-          Executes l (suc h) (at_point head s') n n z B K o →
-          Executes (suc l) (suc h) (at_point head s) n n z B K o
+          Executes integers R w l (suc h) (at_point head s') n n z B K o →
+          Executes integers R w (suc l) (suc h) (at_point head s) n n z B K o
       again s' run (Value f) there =
-          flowed-after (at_point head s) (at_point head s') n n z B K (on-run R w run) f there
+          flowed-after integers R w (at_point head s) (at_point head s') n n z B K (on-run R w run)
+          f there
       again s' run (Error error) there = (there.0, run-trans R w (on-run R w run) there.1)
       again s' run More there = a_turn_more (at_point head s) (at_point head s') run there
 
-      go : ((s' : State) → n ≤ length s' → Executes l (suc h) (at_point head s') n n z B K
+      go : ((s' : State) → n ≤ length s' → Executes integers R w l (suc h) (at_point head s') n n z
+          B K
           (loop turn left s'))
-          → (o : Outcome Turn) → Leads R w l h (at_point head s)
-          (Turned (at_point head s) n head z B K) o →
-          Executes (suc l) (suc h) (at_point head s) n n z B K
+          → (o : Outcome Turn) → Leads integers R w l h (at_point head s)
+          (Turned integers R w (at_point head s) n head z B K) o →
+          Executes integers R w (suc l) (suc h) (at_point head s) n n z B K
           (on_value o (on_again (loop turn left)))
       go next_turns (Value (Again s')) there =
           again s' there.0 (loop turn left s') (next_turns s' there.1)
@@ -320,147 +180,9 @@ module _ (R : Relation) (entry : ℕ → ℕ) (acts : Actions) (callable : ℕ �
       go next_turns (Error error) there = there
       go next_turns More there = longer there
 
-  -- the same, where the loop may go on without a step
-  abbrev Turning : Ground → ℕ → Point → Point → Point → Point → Turn → Type 0
-  Turning start n head z B K (Again s) = Runs R w start (at_point head s) × (n ≤ length s)
-  Turning start n head z B K (Ends f) = Flowed start n n z B K f
-
-  reversed-after : (start middle : Ground) (n : ℕ) (head z B K : Point) → Runs R w start middle →
-      (t : Turn) → Turned middle n head z B K t → Turned start n head z B K t
-  reversed-after start middle n head z B K run (Again s) there = (run-on R w run there.0, there.1)
-  reversed-after start middle n head z B K run (Ends f) there =
-      flowed-after start middle n n z B K run f there
-
-  turning-after : (start middle : Ground) (n : ℕ) (head z B K : Point) → Runs R w start middle →
-      (t : Turn) → Turning middle n head z B K t → Turning start n head z B K t
-  turning-after start middle n head z B K run (Again s) there = (run-trans R w run there.0, there.1)
-  turning-after start middle n head z B K run (Ends f) there =
-      flowed-after start middle n n z B K run f there
-
-  reversed-on : (start middle : Ground) (n : ℕ) (head z B K : Point) → RunsOn R w start middle →
-      (t : Turn) → Turning middle n head z B K t → Turned start n head z B K t
-  reversed-on start middle n head z B K run (Again s) there = (on-then R w run there.0, there.1)
-  reversed-on start middle n head z B K run (Ends f) there =
-      flowed-after start middle n n z B K (on-run R w run) f there
-
-  -- the body of a loop in a turn: next and continue lead to c, a break to z
-  after_body_runs : (T : Ground → Turn → Type 0) (m h : ℕ) (start : Ground) (n k : ℕ) (c z : Point)
-      (o : Outcome Flow) (rest : State → Outcome Turn) → n ≤ k
-      → ((s : State) → Runs R w start (at_point z s) → n ≤ length s → T start (Ends (Next s)))
-      → ((x : ℤ) → Runs R w start (stack.Return x) → T start (Ends (Return x)))
-      → ((middle : Ground) → Runs R w start middle → (t : Turn) → T middle t → T start t)
-      → Executes m h start n k c z c o
-      → ((s : State) → n ≤ length s → Leads R w m h (at_point c s) (T (at_point c s)) (rest s))
-      → Leads R w m h start (T start) (on_value o (after_body rest))
-  after_body_runs T m h start n k c z (Value (Next s)) rest below broken back carry there each =
-      leads-after R w m h start (at_point c s) (T (at_point c s)) (T start) (rest s) there.0
-      (carry (at_point c s) there.0) (each s (let e = there.1 in omega (arith, e, below)))
-  after_body_runs T m h start n k c z (Value (Continue s)) rest below broken back carry there each =
-      leads-after R w m h start (at_point c s) (T (at_point c s)) (T start) (rest s) there.0
-      (carry (at_point c s) there.0) (each s there.1)
-  after_body_runs T m h start n k c z (Value (Break s)) rest below broken back carry there each =
-      broken s there.0 there.1
-  after_body_runs T m h start n k c z (Value (Return x)) rest below broken back carry there each =
-      back x there
-  after_body_runs T m h start n k c z (Error error) rest below broken back carry there each = there
-  after_body_runs T m h start n k c z More rest below broken back carry there each = there
-
-  -- a turn of a `while` or a `for`
-  while_runs : (m h n k : ℕ) (head y c z B K : Point) (s : State) (o : Outcome ℤ)
-      (body : Outcome Flow) (rest : State → Outcome Turn) → n ≤ k → head.width ≡ n → y.width ≤ n →
-      z.width ≤ n → n ≤ length s
-      → Leads R w m 0 (at_point head s) (Forked R w (at_point head s) y z (take head.width s)) o
-      → Executes m h (at_point y s) n k c z c body
-      → ((t : State) → n ≤ length t → Leads R w m h (at_point c t)
-      (Turning (at_point c t) n head z B K) (rest t))
-      → Leads R w m h (at_point head s) (Turned (at_point head s) n head z B K)
-      (on_value o (λ x. if is_zero x then Value (Ends (Next s)) else
-      on_value body (after_body rest)))
-  while_runs m h n k head y c z B K s (Value x) body rest below same fits_y fits_z enough fork inner
-      each =
-      go (is_zero x) fork
-    where
-      go : (t : Bool) → Branch t (RunsOn R w (at_point head s) (at_point z (take head.width s)))
-          (RunsOn R w (at_point head s) (at_point y (take head.width s)))
-          → Leads R w m h (at_point head s) (Turned (at_point head s) n head z B K)
-          (if t then Value (Ends (Next s)) else on_value body (after_body rest))
-      go true there = (
-        on-run R w (subst (RunsOn R w (at_point head s))
-            (jump_same head z s (omega (arith, same, fits_z))) there),
-        enough,
-      )
-      go false there =
-          let run = subst (RunsOn R w (at_point head s))
-          (jump_same head y s (omega (arith, same, fits_y))) there in
-          leads-after R w m h (at_point head s) (at_point y s) (Turning (at_point y s) n head z B K)
-          (Turned (at_point head s) n head z B K) (on_value body (after_body rest))
-          (on-run R w run)
-          (reversed-on (at_point head s) (at_point y s) n head z B K run)
-          (after_body_runs (λ g. Turning g n head z B K) m h (at_point y s) n k c z body rest below
-          (λ t run fits. (run, fits)) (λ x run. run)
-          (λ middle run. turning-after (at_point y s) middle n head z B K run) inner each)
-  while_runs m h n k head y c z B K s (Error error) body rest below same fits_y fits_z enough there
-      inner each =
-      there
-  while_runs m h n k head y c z B K s More body rest below same fits_y fits_z enough there inner
-      each =
-      long-wider m 0 h (at_point head s) (omega arith) there
-
-  -- a turn of a `do`
-  do_runs : (m h n k : ℕ) (head c z B K : Point) (s : State) (o : State → Outcome ℤ)
-      (body : Outcome Flow) → n ≤ k → c.width ≡ n → head.width ≤ n → z.width ≤ n
-      → Executes m h (at_point head s) n k c z c body
-      → ((t : State) → n ≤ length t → Leads R w m 0 (at_point c t)
-      (Forked R w (at_point c t) head z (take c.width t)) (o t))
-      → Leads R w m h (at_point head s) (Turned (at_point head s) n head z B K)
-      (on_value body (after_body (λ t. on_value (o t)
-      (λ x. if is_zero x then Value (Ends (Next t)) else Value (Again t)))))
-  do_runs m h n k head c z B K s o body below same fits_h fits_z inner each =
-      after_body_runs (λ g. Turned g n head z B K) m h (at_point head s) n k c z body
-      (λ t. on_value (o t) (λ x. if is_zero x then Value (Ends (Next t)) else Value (Again t)))
-      below
-      (λ t run fits. (run, fits)) (λ x run. run)
-      (λ middle run. reversed-after (at_point head s) middle n head z B K run) inner
-      (λ t enough. test t enough (o t) (each t enough))
-    where
-      test : (t : State) → n ≤ length t → (o : Outcome ℤ) →
-          Leads R w m 0 (at_point c t) (Forked R w (at_point c t) head z (take c.width t)) o
-          → Leads R w m h (at_point c t) (Turned (at_point c t) n head z B K)
-          (on_value o (λ x. if is_zero x then Value (Ends (Next t)) else Value (Again t)))
-      test t enough (Value x) fork = go (is_zero x) fork
-        where
-          go : (b : Bool) → Branch b (RunsOn R w (at_point c t) (at_point z (take c.width t)))
-              (RunsOn R w (at_point c t) (at_point head (take c.width t)))
-              → Leads R w m h (at_point c t) (Turned (at_point c t) n head z B K)
-              (if b then Value (Ends (Next t)) else Value (Again t))
-          go true there = (
-            on-run R w (subst (RunsOn R w (at_point c t))
-                (jump_same c z t (omega (arith, same, fits_z))) there),
-            enough,
-          )
-          go false there = (
-            subst (RunsOn R w (at_point c t)) (jump_same c head t (omega (arith, same, fits_h)))
-                there,
-            enough,
-          )
-      test t enough (Error error) there = there
-      test t enough More there = long-wider m 0 h (at_point c t) (omega arith) there
-
-  -- the last part of a `for`
-  changes : (m h n k : ℕ) (c head z B K : Point) (t : State) (o : Outcome Flow) → n ≤ k →
-      Executes m h (at_point c t) n k head B K o →
-      Leads R w m h (at_point c t) (Turning (at_point c t) n head z B K) (on_value o after_change)
-  changes m h n k c head z B K t (Value (Next s)) below there =
-      (there.0, let e = there.1 in omega (arith, e, below))
-  changes m h n k c head z B K t (Value (Break s)) below there = there
-  changes m h n k c head z B K t (Value (Continue s)) below there = there
-  changes m h n k c head z B K t (Value (Return x)) below there = there
-  changes m h n k c head z B K t (Error error) below there = there
-  changes m h n k c head z B K t More below there = there
-
   -- a statement gives no slots back
   at_least_slots : (n k : ℕ) (t : Stmt) (a z B K : Point) →
-      IsStatement acts callable n t k a z B K → n ≤ k
+      IsStatement integers acts callable n t k a z B K → n ≤ k
   at_least_slots n k t a z B K (code.empty _ _ _ _ _ _ _) = omega arith
   at_least_slots n k t a z B K (code.unset _ _ _ _ _ _ _) = omega arith
   at_least_slots n k t a z B K (code.declared _ _ _ _ _ _ _ _ _ _ _) = omega arith
@@ -485,8 +207,8 @@ module _ (R : Relation) (entry : ℕ → ℕ) (acts : Actions) (callable : ℕ �
       (next : ℤ → State) → acts b (Set v p z) → a.width ≡ n → n ≤ length s → v ≤ n → z.width ≤ suc n
       → (z.width ≤ n) ⊎ (v ≡ n) → ((x : ℤ) → take z.width (with_element v x (take n s)) ≡
       take z.width (next x)) → ((x : ℤ) → k ≤ length (next x))
-      → Leads R w m 0 (at_point a s) (Comes R w a b (take a.width s) p) o →
-      Executes m h (at_point a s) n k z B K (on_value o (λ x. Value (Next (next x))))
+      → Leads integers R w m 0 (at_point a s) (Comes R w a b (take a.width s) p) o →
+      Executes integers R w m h (at_point a s) n k z B K (on_value o (λ x. Value (Next (next x))))
   sets_next m h n v k a b z B K s p (Value x) next act same enough below fits wide is long come = (
     subst (Runs R w (at_point a s)) (ap (stack.Call z.symbol) (is x))
         (sets n v a b z s p x act same enough below fits wide come),
@@ -496,11 +218,12 @@ module _ (R : Relation) (entry : ℕ → ℕ) (acts : Actions) (callable : ℕ �
       =
       there
   sets_next m h n v k a b z B K s p More next act same enough below fits wide is long there =
-      long-wider m 0 h (at_point a s) (omega arith) there
+      long-wider integers R w m 0 h (at_point a s) (omega arith) there
 
   returns_value : (m h n : ℕ) (a b z B K : Point) (s : State) (p : Body) (o : Outcome ℤ) →
-      acts b (does_at.Return p) → Leads R w m 0 (at_point a s) (Comes R w a b (take a.width s) p) o
-      → Executes m h (at_point a s) n n z B K (on_value o (λ x. Value (Return x)))
+      acts b (does_at.Return p) → Leads integers R w m 0 (at_point a s)
+      (Comes R w a b (take a.width s) p) o
+      → Executes integers R w m h (at_point a s) n n z B K (on_value o (λ x. Value (Return x)))
   returns_value m h n a b z B K s p (Value x) act come =
       let ys = take a.width s ++ come.more in
       let is : value (assigned ys) p ≡ x = ap (λ l. value (assigned l) p) (sym (append-nil ys)) ∙
@@ -510,7 +233,7 @@ module _ (R : Relation) (entry : ℕ → ℕ) (acts : Actions) (callable : ℕ �
       (does b (does_at.Return p) act ys come.long))))
   returns_value m h n a b z B K s p (Error error) act there = there
   returns_value m h n a b z B K s p More act there =
-      long-wider m 0 h (at_point a s) (omega arith) there
+      long-wider integers R w m 0 h (at_point a s) (omega arith) there
 
   targets-wider : (n k : ℕ) (B K : Point) → n ≤ k → Targets n B K → Targets k B K
   targets-wider n k B K below targets =
@@ -520,29 +243,14 @@ module _ (R : Relation) (entry : ℕ → ℕ) (acts : Actions) (callable : ℕ �
             targets.continues in omega (arith, e, below);
       }
 
-  condition_is : (test : Option Expr) (r : Rounds) (s : State) → condition Unbounded test r s ≡
-      expr Unbounded (calls_with r) (test_or_one test) s
-  condition_is None r s = sym (means.expr-Lit Unbounded (calls_with r) (pos 1) s)
+  condition_is : (test : Option Expr) (r : Rounds) (s : State) → condition integers test r s ≡
+      expr integers (calls_with r) (test_or_one test) s
+  condition_is None r s = sym (means.expr-Lit integers (calls_with r) (pos 1) s)
   condition_is (Some e) r s = refl
-
-  flowed-outer : (start : Ground) (n i k : ℕ) (z B K : Point) → n ≤ i → (f : Flow) →
-      Flowed start i k z B K f → Flowed start n k z B K f
-  flowed-outer start n i k z B K below (Next s) there = there
-  flowed-outer start n i k z B K below (Break s) there =
-      (there.0, let e = there.1 in omega (arith, e, below))
-  flowed-outer start n i k z B K below (Continue s) there =
-      (there.0, let e = there.1 in omega (arith, e, below))
-  flowed-outer start n i k z B K below (Return x) there = there
-
-  executes-outer : (m h : ℕ) (start : Ground) (n i k : ℕ) (z B K : Point) (o : Outcome Flow) → n ≤
-      i → Executes m h start i k z B K o → Executes m h start n k z B K o
-  executes-outer m h start n i k z B K o below there =
-      leads-after R w m h start start (Flowed start i k z B K) (Flowed start n k z B K) o
-      (run-none R w start) (flowed-outer start n i k z B K below) there
 
   -- the change's point is as wide as the head
   change_width : (i : ℕ) (change : Option Stmt) (c h B K : Point) → h.width ≡ i →
-      IsChange acts callable i change c h B K → c.width ≤ i
+      IsChange integers acts callable i change c h B K → c.width ≤ i
   change_width i change c h B K wide (code.no_change _ _ _ _) = omega (arith, wide)
   change_width i change c h B K wide (code.some_change _ _ _ _ _ _ _ same _) = omega (arith, same)
 
@@ -553,35 +261,29 @@ module _ (R : Relation) (entry : ℕ → ℕ) (acts : Actions) (callable : ℕ �
   for_count first test (Some c) u = count.loops-For-Some first test c u
 
   for_is : (first : List Stmt) (test : Option Expr) (change : Option Stmt) (u : Stmt) (r : Rounds)
-      (s : State) → stmt Unbounded (Syntax.For first test change u) r s
-      ≡ on_value (on_value (in_order (map (stmt Unbounded) first) r s)
-      (on_next (loop (while_turn Unbounded test (optional (option_map (stmt Unbounded) change))
-      (stmt Unbounded u)) r)))
+      (s : State) → stmt integers (Syntax.For first test change u) r s
+      ≡ on_value (on_value (in_order (map (stmt integers) first) r s)
+      (on_next (loop (while_turn integers test (optional (option_map (stmt integers) change))
+      (stmt integers u)) r)))
       (leave (length s))
-  for_is first test None u r s = means.stmt-For-None Unbounded first test u r s
-  for_is first test (Some c) u r s = means.stmt-For-Some Unbounded first test c u r s
-
-  last_is : (o : Outcome Flow) (r : Rounds) → on_value o (on_next (in_order [] r)) ≡ o
-  last_is (Value (Next s)) r = refl
-  last_is (Value (Break s)) r = refl
-  last_is (Value (Continue s)) r = refl
-  last_is (Value (Return x)) r = refl
-  last_is (Error error) r = refl
-  last_is More r = refl
+  for_is first test None u r s = means.stmt-For-None integers first test u r s
+  for_is first test (Some c) u r s = means.stmt-For-Some integers first test c u r s
 
   mutual
     -- the code of a statement leads where the statement does
     pub statement_runs : (n : ℕ) (t : Stmt) (k : ℕ) (a z B K : Point) →
-        IsStatement acts callable n t k a z B K → Targets n B K → (r : Rounds) (m : ℕ) → Fine r m →
+        IsStatement integers acts callable n t k a z B K → Targets n B K → (r : Rounds) (m : ℕ) →
+        Fine r m →
         (s : State)
-        → a.width ≡ n → n ≤ length s → Executes m (loops t) (at_point a s) n k z B K
-        (stmt Unbounded t r s)
+        → a.width ≡ n → n ≤ length s → Executes integers R w m (loops t) (at_point a s) n k z B K
+        (stmt integers t r s)
     statement_runs n t k a z B K (code.empty _ _ _ _ _ act fits) targets r m fine s same enough =
-        subst (Executes m (loops t) (at_point a s) n n z B K) (sym (means.stmt-Empty Unbounded r s))
+        subst (Executes integers R w m (loops t) (at_point a s) n n z B K)
+        (sym (means.stmt-Empty integers r s))
         (goes a z s n act same enough fits, enough)
     statement_runs n t k a z B K (code.unset _ _ _ _ _ act fits) targets r m fine s same enough =
-        subst (Executes m (loops t) (at_point a s) n (suc n) z B K)
-        (sym (means.stmt-Declare-None Unbounded n r s))
+        subst (Executes integers R w m (loops t) (at_point a s) n (suc n) z B K)
+        (sym (means.stmt-Declare-None integers n r s))
         (sets_next m (loops t) n n (suc n) a a z B K s (number (pos 0)) (Value (pos 0))
         (λ x. take n s ++ x ∷ []) act same enough (omega arith) fits (inr refl)
         (λ x. ap (take z.width) (with_element-end-is n x s enough))
@@ -597,9 +299,9 @@ module _ (R : Relation) (entry : ℕ → ℕ) (acts : Actions) (callable : ℕ �
         }))
     statement_runs n t k a z B K (code.declared _ e _ b _ _ _ p inner act fits) targets r m fine s
         same enough =
-        subst (Executes m (loops t) (at_point a s) n (suc n) z B K)
-        (sym (means.stmt-Declare-Some Unbounded n e r s))
-        (sets_next m (loops t) n n (suc n) a b z B K s p (expr Unbounded (calls_with r) e s)
+        subst (Executes integers R w m (loops t) (at_point a s) n (suc n) z B K)
+        (sym (means.stmt-Declare-Some integers n e r s))
+        (sets_next m (loops t) n n (suc n) a b z B K s p (expr integers (calls_with r) e s)
         (λ x. take n s ++ x ∷ []) act same enough (omega arith) fits (inr refl)
         (λ x. ap (take z.width) (with_element-end-is n x s enough))
         (λ x. let e = length-append (take n s) (x ∷ []) in let g = length-take-le n s enough in
@@ -607,9 +309,9 @@ module _ (R : Relation) (entry : ℕ → ℕ) (acts : Actions) (callable : ℕ �
         (evaluates r m fine n e a b p inner s same enough))
     statement_runs n t k a z B K (code.assigned_to _ v e _ b _ _ _ p below inner act fits) targets r
         m fine s same enough =
-        subst (Executes m (loops t) (at_point a s) n n z B K)
-        (sym (means.stmt-Assign Unbounded v e r s))
-        (sets_next m (loops t) n v n a b z B K s p (expr Unbounded (calls_with r) e s)
+        subst (Executes integers R w m (loops t) (at_point a s) n n z B K)
+        (sym (means.stmt-Assign integers v e r s))
+        (sets_next m (loops t) n v n a b z B K s p (expr integers (calls_with r) e s)
         (λ x. slice_set s v x)
         act same enough (omega (arith, below)) (omega (arith, fits)) (inl fits)
         (λ x. take-with_element-set z.width n v x s below fits enough)
@@ -617,48 +319,51 @@ module _ (R : Relation) (entry : ℕ → ℕ) (acts : Actions) (callable : ℕ �
         (evaluates r m fine n e a b p inner s same enough))
     statement_runs n t k a z B K (code.if_alone _ l e u _ y _ _ _ fits_y fits_z test inner) targets
         r m fine s same enough =
-        subst (Executes m (loops t) (at_point a s) n n z B K)
-        (sym (means.stmt-If-None Unbounded e u r s))
-        (branches m (loops t) n a y z z B K s n (expr Unbounded (calls_with r) e s)
-        (stmt Unbounded u r s)
+        subst (Executes integers R w m (loops t) (at_point a s) n n z B K)
+        (sym (means.stmt-If-None integers e u r s))
+        (branches integers R w m (loops t) n a y z z B K s n (expr integers (calls_with r) e s)
+        (stmt integers u r s)
         (Value (Next s)) same (omega (arith, fits_y)) fits_z
         (decides r m fine n e a y z test s same enough)
-        (leads-wider m (loops u) (loops t) (at_point y s) (Flowed (at_point y s) n n z B K)
-        (stmt Unbounded u r s) (let q = count.loops-If-None e u in omega (arith, q))
-        (executes-fewer m (loops u) (at_point y s) n l n z B K (stmt Unbounded u r s)
+        (leads-wider integers R w m (loops u) (loops t) (at_point y s)
+        (Flowed integers R w (at_point y s) n n z B K)
+        (stmt integers u r s) (let q = count.loops-If-None e u in omega (arith, q))
+        (executes-fewer integers R w m (loops u) (at_point y s) n l n z B K (stmt integers u r s)
         (at_least_slots n l u y z B K inner)
         (statement_runs n u l y z B K inner targets r m fine s fits_y enough)))
         (run-none R w (at_point z s), enough))
     statement_runs n t k a z B K (code.if_else _ l l' e u v _ y x _ _ _ fits_y fits_x fits_z test
         inner other) targets r m fine s same enough =
-        subst (Executes m (loops t) (at_point a s) n n z B K)
-        (sym (means.stmt-If-Some Unbounded e u v r s))
-        (branches m (loops t) n a y x z B K s n (expr Unbounded (calls_with r) e s)
-        (stmt Unbounded u r s) (stmt Unbounded v r s)
+        subst (Executes integers R w m (loops t) (at_point a s) n n z B K)
+        (sym (means.stmt-If-Some integers e u v r s))
+        (branches integers R w m (loops t) n a y x z B K s n (expr integers (calls_with r) e s)
+        (stmt integers u r s) (stmt integers v r s)
         same (omega (arith, fits_y)) (omega (arith, fits_x))
         (decides r m fine n e a y x test s same enough)
-        (leads-wider m (loops u) (loops t) (at_point y s) (Flowed (at_point y s) n n z B K)
-        (stmt Unbounded u r s) (let q = count.loops-If-Some e u v in omega (arith, q))
-        (executes-fewer m (loops u) (at_point y s) n l n z B K (stmt Unbounded u r s)
+        (leads-wider integers R w m (loops u) (loops t) (at_point y s)
+        (Flowed integers R w (at_point y s) n n z B K)
+        (stmt integers u r s) (let q = count.loops-If-Some e u v in omega (arith, q))
+        (executes-fewer integers R w m (loops u) (at_point y s) n l n z B K (stmt integers u r s)
         (at_least_slots n l u y z B K inner)
         (statement_runs n u l y z B K inner targets r m fine s fits_y enough)))
-        (leads-wider m (loops v) (loops t) (at_point x s) (Flowed (at_point x s) n n z B K)
-        (stmt Unbounded v r s) (let q = count.loops-If-Some e u v in omega (arith, q))
-        (executes-fewer m (loops v) (at_point x s) n l' n z B K (stmt Unbounded v r s)
+        (leads-wider integers R w m (loops v) (loops t) (at_point x s)
+        (Flowed integers R w (at_point x s) n n z B K)
+        (stmt integers v r s) (let q = count.loops-If-Some e u v in omega (arith, q))
+        (executes-fewer integers R w m (loops v) (at_point x s) n l' n z B K (stmt integers v r s)
         (at_least_slots n l' v x z B K other)
         (statement_runs n v l' x z B K other targets r m fine s fits_x enough))))
     statement_runs n t k a z B K (code.while_loop _ l e u _ y _ _ _ fits_y fits_z test inner)
         targets r m fine s same enough =
-        subst (Executes m (loops t) (at_point a s) n n z B K)
-        (sym (means.stmt-While Unbounded e u r s))
-        (subst (λ h. Executes m h (at_point a s) n n z B K
-        (loop (while_turn Unbounded (Some e) (optional None) (stmt Unbounded u)) r s))
+        subst (Executes integers R w m (loops t) (at_point a s) n n z B K)
+        (sym (means.stmt-While integers e u r s))
+        (subst (λ h. Executes integers R w m h (at_point a s) n n z B K
+        (loop (while_turn integers (Some e) (optional None) (stmt integers u)) r s))
         (sym (count.loops-While e u))
-        (loops_run n (loops u) a z B K (while_turn Unbounded (Some e) (optional None)
-        (stmt Unbounded u))
+        (loops_run n (loops u) a z B K (while_turn integers (Some e) (optional None)
+        (stmt integers u))
         (λ r' m' fine' s' enough'.
-        while_runs m' (loops u) n l a y a z B K s' (expr Unbounded (calls_with r') e s')
-        (stmt Unbounded u r' s')
+        while_runs integers R w m' (loops u) n l a y a z B K s' (expr integers (calls_with r') e s')
+        (stmt integers u r' s')
         (λ c. on_value (optional None r' c) after_change) (at_least_slots n l u y a z a inner)
         same (omega (arith, fits_y)) fits_z enough'
         (decides r' m' fine' n e a y z test s' same enough')
@@ -667,15 +372,16 @@ module _ (R : Relation) (entry : ℕ → ℕ) (acts : Actions) (callable : ℕ �
         (λ c enough_c. (run-none R w (at_point a c), enough_c))) r m fine s enough))
     statement_runs n t k a z B K (code.do_loop _ l e u _ c _ _ _ fits_c fits_z inner test) targets r
         m fine s same enough =
-        subst (Executes m (loops t) (at_point a s) n n z B K)
-        (sym (means.stmt-DoWhile Unbounded u e r s))
-        (subst (λ h. Executes m h (at_point a s) n n z B K
-        (loop (do_turn Unbounded e (stmt Unbounded u)) r s))
+        subst (Executes integers R w m (loops t) (at_point a s) n n z B K)
+        (sym (means.stmt-DoWhile integers u e r s))
+        (subst (λ h. Executes integers R w m h (at_point a s) n n z B K
+        (loop (do_turn integers e (stmt integers u)) r s))
         (sym (count.loops-DoWhile u e))
-        (loops_run n (loops u) a z B K (do_turn Unbounded e (stmt Unbounded u))
+        (loops_run n (loops u) a z B K (do_turn integers e (stmt integers u))
         (λ r' m' fine' s' enough'.
-        do_runs m' (loops u) n l a c z B K s' (λ c'. expr Unbounded (calls_with r') e c')
-        (stmt Unbounded u r' s')
+        do_runs integers R w m' (loops u) n l a c z B K s'
+        (λ c'. expr integers (calls_with r') e c')
+        (stmt integers u r' s')
         (at_least_slots n l u a c z c inner) fits_c (omega (arith, same)) fits_z
         (statement_runs n u l a c z c inner (record
         { breaks = fits_z; continues = omega (arith, fits_c) }) r' m' fine' s' same enough')
@@ -684,35 +390,41 @@ module _ (R : Relation) (entry : ℕ → ℕ) (acts : Actions) (callable : ℕ �
         fits_y fits_z begun test_code inner changed) targets r m fine s same enough =
         let g = loops u + of_part (option_map loops change) in
         let whole = total (map loops first) + suc g in
-        let turn = while_turn Unbounded test (optional (option_map (stmt Unbounded) change))
-        (stmt Unbounded u) in
-        subst (Executes m (loops t) (at_point a s) n n z B K) (sym (for_is first test change u r s))
-        (subst (λ q. Executes m q (at_point a s) n n z B K
-        (on_value (on_value (in_order (map (stmt Unbounded) first) r s) (on_next (loop turn r)))
+        let turn = while_turn integers test (optional (option_map (stmt integers) change))
+        (stmt integers u) in
+        subst (Executes integers R w m (loops t) (at_point a s) n n z B K)
+        (sym (for_is first test change u r s))
+        (subst (λ q. Executes integers R w m q (at_point a s) n n z B K
+        (on_value (on_value (in_order (map (stmt integers) first) r s) (on_next (loop turn r)))
         (leave (length s)))) (sym (for_count first test change u))
-        (leaves m whole (at_point a s) n i (length s) z B K below enough fits_z targets.breaks
-        targets.continues (on_value (in_order (map (stmt Unbounded) first) r s)
+        (leaves integers R w m whole (at_point a s) n i (length s) z B K below enough fits_z
+        targets.breaks
+        targets.continues (on_value (in_order (map (stmt integers) first) r s)
         (on_next (loop turn r)))
-        (nexts m whole (at_point a s) n i i h z B K (in_order (map (stmt Unbounded) first) r s)
+        (nexts integers R w m whole (at_point a s) n i i h z B K
+        (in_order (map (stmt integers) first) r s)
         (loop turn r)
         below
         (begun_runs n first i a h B K g begun targets r m fine s same enough)
-        (λ s1 enough1. leads-wider m (suc g) whole (at_point h s1)
-        (Flowed (at_point h s1) i i z B K) (loop turn r s1) (omega arith)
+        (λ s1 enough1. leads-wider integers R w m (suc g) whole (at_point h s1)
+        (Flowed integers R w (at_point h s1) i i z B K) (loop turn r s1) (omega arith)
         (loops_run i g h z B K turn (λ r' m' fine' s' enough'.
-        subst (λ o. Leads R w m' g (at_point h s') (Turned (at_point h s') i h z B K)
+        subst (λ o. Leads integers R w m' g (at_point h s')
+        (Turned integers R w (at_point h s') i h z B K)
         (on_value o (λ x. if is_zero x then Value (Ends (Next s')) else
-        on_value (stmt Unbounded u r' s') (after_body
-        (λ t'. on_value (optional (option_map (stmt Unbounded) change) r' t') after_change)))))
+        on_value (stmt integers u r' s') (after_body
+        (λ t'. on_value (optional (option_map (stmt integers) change) r' t') after_change)))))
         (sym (condition_is test r' s'))
-        (while_runs m' g i l h y c z B K s' (expr Unbounded (calls_with r') (test_or_one test) s')
-        (stmt Unbounded u r' s') (λ t'. on_value
-        (optional (option_map (stmt Unbounded) change) r' t') after_change)
+        (while_runs integers R w m' g i l h y c z B K s'
+        (expr integers (calls_with r') (test_or_one test) s')
+        (stmt integers u r' s') (λ t'. on_value
+        (optional (option_map (stmt integers) change) r' t') after_change)
         (at_least_slots i l u y c z c inner) wide (omega (arith, fits_y))
         (omega (arith, fits_z, below)) enough'
         (decides r' m' fine' i (test_or_one test) h y z test_code s' wide enough')
-        (leads-wider m' (loops u) g (at_point y s') (Flowed (at_point y s') i l c z c)
-        (stmt Unbounded u r' s') (omega arith)
+        (leads-wider integers R w m' (loops u) g (at_point y s')
+        (Flowed integers R w (at_point y s') i l c z c)
+        (stmt integers u r' s') (omega arith)
         (statement_runs i u l y c z c inner (record {
           breaks = omega (arith, fits_z, below);
           continues =
@@ -723,85 +435,96 @@ module _ (R : Relation) (entry : ℕ → ℕ) (acts : Actions) (callable : ℕ �
         enough1)))))
     statement_runs n t k a z B K (code.break_out _ token _ _ _ _ act) targets r m fine s same enough
         =
-        subst (Executes m (loops t) (at_point a s) n n z B K)
-        (sym (means.stmt-Break Unbounded token r s))
+        subst (Executes integers R w m (loops t) (at_point a s) n n z B K)
+        (sym (means.stmt-Break integers token r s))
         (goes a B s n act same enough targets.breaks, enough)
     statement_runs n t k a z B K (code.go_on _ token _ _ _ _ act) targets r m fine s same enough =
-        subst (Executes m (loops t) (at_point a s) n n z B K)
-        (sym (means.stmt-Continue Unbounded token r s))
+        subst (Executes integers R w m (loops t) (at_point a s) n n z B K)
+        (sym (means.stmt-Continue integers token r s))
         (goes a K s n act same enough targets.continues, enough)
     statement_runs n t k a z B K (code.returned _ e _ b _ _ _ p inner act) targets r m fine s same
         enough =
-        subst (Executes m (loops t) (at_point a s) n n z B K)
-        (sym (means.stmt-Return Unbounded e r s))
-        (returns_value m (loops t) n a b z B K s p (expr Unbounded (calls_with r) e s) act
+        subst (Executes integers R w m (loops t) (at_point a s) n n z B K)
+        (sym (means.stmt-Return integers e r s))
+        (returns_value m (loops t) n a b z B K s p (expr integers (calls_with r) e s) act
         (evaluates r m fine n e a b p inner s same enough))
     statement_runs n t k a z B K (code.block _ i ts _ _ _ _ below fits_z inner) targets r m fine s
         same enough =
-        subst (Executes m (loops t) (at_point a s) n n z B K)
-        (sym (means.stmt-Block Unbounded ts r s))
-        (subst (λ h. Executes m h (at_point a s) n n z B K
-        (on_value (in_order (map (stmt Unbounded) ts) r s) (leave (length s))))
+        subst (Executes integers R w m (loops t) (at_point a s) n n z B K)
+        (sym (means.stmt-Block integers ts r s))
+        (subst (λ h. Executes integers R w m h (at_point a s) n n z B K
+        (on_value (in_order (map (stmt integers) ts) r s) (leave (length s))))
         (sym (count.loops-Block ts))
-        (leaves m (total (map loops ts)) (at_point a s) n i (length s) z B K below enough fits_z
-        targets.breaks targets.continues (in_order (map (stmt Unbounded) ts) r s)
+        (leaves integers R w m (total (map loops ts)) (at_point a s) n i (length s) z B K below
+        enough fits_z
+        targets.breaks targets.continues (in_order (map (stmt integers) ts) r s)
         (list_runs n ts i a z B K inner targets r m fine s same enough)))
 
     begun_runs : (n : ℕ) (first : List Stmt) (i : ℕ) (a h B K : Point) (g : ℕ) →
-        IsBegun acts callable n first i a h B K → Targets n B K → (r : Rounds) (m : ℕ) → Fine r m →
+        IsBegun integers acts callable n first i a h B K → Targets n B K → (r : Rounds) (m : ℕ) →
+        Fine r m →
         (s : State)
-        → a.width ≡ n → n ≤ length s → Executes m (total (map loops first) + suc g) (at_point a s) n
-        i h B K (in_order (map (stmt Unbounded) first) r s)
+        → a.width ≡ n → n ≤ length s → Executes integers R w m (total (map loops first) + suc g)
+        (at_point a s) n
+        i h B K (in_order (map (stmt integers) first) r s)
     begun_runs n first i a h B K g (code.no_first _ _ _ _) targets r m fine s same enough =
         (run-none R w (at_point a s), enough)
     begun_runs n first i a h B K g (code.some_first _ _ t ts _ _ _ _ inner) targets r m fine s same
         enough =
-        leads-wider m (total (map loops first)) (total (map loops first) + suc g) (at_point a s)
-        (Flowed (at_point a s) n i h B K) (in_order (map (stmt Unbounded) first) r s) (omega arith)
+        leads-wider integers R w m (total (map loops first)) (total (map loops first) + suc g)
+        (at_point a s)
+        (Flowed integers R w (at_point a s) n i h B K) (in_order (map (stmt integers) first) r s)
+        (omega arith)
         (list_runs n (t ∷ ts) i a h B K inner targets r m fine s same enough)
 
     change_runs : (i : ℕ) (change : Option Stmt) (c h z B K : Point) (u : ℕ) →
-        IsChange acts callable i change c h B K → Targets i B K → (r : Rounds) (m : ℕ) → Fine r m →
+        IsChange integers acts callable i change c h B K → Targets i B K → (r : Rounds) (m : ℕ) →
+        Fine r m →
         (t : State)
-        → i ≤ length t → Leads R w m (u + of_part (option_map loops change)) (at_point c t)
-        (Turning (at_point c t) i h z B K)
-        (on_value (optional (option_map (stmt Unbounded) change) r t) after_change)
+        → i ≤ length t → Leads integers R w m (u + of_part (option_map loops change)) (at_point c t)
+        (Turning integers R w (at_point c t) i h z B K)
+        (on_value (optional (option_map (stmt integers) change) r t) after_change)
     change_runs i change c h z B K u (code.no_change _ _ _ _) targets r m fine t enough =
         (run-none R w (at_point c t), enough)
     change_runs i change c h z B K u (code.some_change _ l v _ _ _ _ same inner) targets r m fine t
         enough =
-        changes m (u + loops v) i l c h z B K t (stmt Unbounded v r t)
+        changes integers R w m (u + loops v) i l c h z B K t (stmt integers v r t)
         (at_least_slots i l v c h B K inner)
-        (leads-wider m (loops v) (u + loops v) (at_point c t) (Flowed (at_point c t) i l h B K)
-        (stmt Unbounded v r t) (omega arith) (statement_runs i v l c h B K inner targets r m fine t
+        (leads-wider integers R w m (loops v) (u + loops v) (at_point c t)
+        (Flowed integers R w (at_point c t) i l h B K)
+        (stmt integers v r t) (omega arith) (statement_runs i v l c h B K inner targets r m fine t
         same
         enough))
 
     pub list_runs : (n : ℕ) (ts : List Stmt) (k : ℕ) (a z B K : Point) →
-        IsList acts callable n ts k a z B K → Targets n B K → (r : Rounds) (m : ℕ) → Fine r m →
+        IsList integers acts callable n ts k a z B K → Targets n B K → (r : Rounds) (m : ℕ) →
+        Fine r m →
         (s : State)
-        → a.width ≡ n → n ≤ length s → Executes m (total (map loops ts)) (at_point a s) n k z B K
-        (in_order (map (stmt Unbounded) ts) r s)
+        → a.width ≡ n → n ≤ length s → Executes integers R w m (total (map loops ts)) (at_point a s)
+        n k z B K
+        (in_order (map (stmt integers) ts) r s)
     list_runs n ts k a z B K (code.nothing _ _ _ _ _ act fits) targets r m fine s same enough =
         (goes a z s n act same enough fits, enough)
     list_runs n ts k a z B K (code.last _ _ t _ _ _ _ inner) targets r m fine s same enough =
-        subst (Executes m (loops t + 0) (at_point a s) n k z B K)
-        (sym (last_is (stmt Unbounded t r s) r))
-        (leads-wider m (loops t) (loops t + 0) (at_point a s) (Flowed (at_point a s) n k z B K)
-        (stmt Unbounded t r s) (omega arith) (statement_runs n t k a z B K inner targets r m fine s
+        subst (Executes integers R w m (loops t + 0) (at_point a s) n k z B K)
+        (sym (last_is (stmt integers t r s) r))
+        (leads-wider integers R w m (loops t) (loops t + 0) (at_point a s)
+        (Flowed integers R w (at_point a s) n k z B K)
+        (stmt integers t r s) (omega arith) (statement_runs n t k a z B K inner targets r m fine s
         same
         enough))
     list_runs n ts k a z B K (code.more _ l _ t u us _ c _ _ _ below wide inner rest) targets r m
         fine s same enough =
-        nexts m (loops t + total (map loops (u ∷ us))) (at_point a s) n l k c z B K
-        (stmt Unbounded t r s)
-        (in_order (map (stmt Unbounded) (u ∷ us)) r) below
-        (leads-wider m (loops t) (loops t + total (map loops (u ∷ us))) (at_point a s)
-        (Flowed (at_point a s) n l c B K) (stmt Unbounded t r s) (omega arith)
+        nexts integers R w m (loops t + total (map loops (u ∷ us))) (at_point a s) n l k c z B K
+        (stmt integers t r s)
+        (in_order (map (stmt integers) (u ∷ us)) r) below
+        (leads-wider integers R w m (loops t) (loops t + total (map loops (u ∷ us))) (at_point a s)
+        (Flowed integers R w (at_point a s) n l c B K) (stmt integers t r s) (omega arith)
         (statement_runs n t l a c B K inner targets r m fine s same enough))
-        (λ s' enough'. leads-wider m (total (map loops (u ∷ us)))
+        (λ s' enough'. leads-wider integers R w m (total (map loops (u ∷ us)))
         (loops t + total (map loops (u ∷ us))) (at_point c s')
-        (Flowed (at_point c s') l k z B K) (in_order (map (stmt Unbounded) (u ∷ us)) r s')
+        (Flowed integers R w (at_point c s') l k z B K)
+        (in_order (map (stmt integers) (u ∷ us)) r s')
         (omega arith)
         (list_runs l (u ∷ us) k c z B K rest (targets-wider n l B K below targets) r m fine s' wide
         enough'))

@@ -1,5 +1,5 @@
 -- The rules of each translation agree with the meaning of its program.
-use Rattle.std.proofs.Common.{◌≡◌, ◌∙◌, ap, sym, subst, refl, true, ℕ, Some, List, length, ℤ, arith}
+use Rattle.std.proofs.Common.{◌≡◌, ◌∙◌, ap, sym, subst, refl, true, ℕ, zero, suc, ◌≤◌, Some, List, length, ℤ, arith}
 use Rattle.std.specs.Prelude.{slice_get}
 use Rattle.rx_rewriting.specs.Terms as stack
 use Rattle.rx_rewriting.specs.Terms.{Fits, Ground, IsResult, Relation, TermSet}
@@ -19,14 +19,17 @@ use Rattle.rx_term.specs.declared.term.Term.TheVariants.{Call}
 use Rattle.rx_term.proofs.AssignedLaws.{values-assigned}
 use Rattle.rx_term.proofs.Equations.{ground-Call}
 use Rattle.c_ast.specs.Scoped.{is_scoped, parameter_counts}
+use Rattle.c_ast.specs.declared.integers.Integers.{Integers}
+use Rattle.c_ast.specs.declared.integers.Integers.TheVariants.{Unbounded, Bits32}
 use Rattle.c_ast.specs.declared.program.Resolved.{Resolved}
-use Rattle.c_meaning.specs.Outcomes.{Division, Outcome, Value, Error, IsAnswer}
+use Rattle.c_meaning.specs.Outcomes.{Division, Range, Failure, Outcome, Value, Error, IsAnswer}
 use Rattle.rx_code.specs.Programs.{entry_of, program_code}
 use Rattle.rx_code.specs.Reached.{IsFirst, IsSecond, Reached}
+use Rattle.rx_code.specs.Rules.{failure_codes}
 use Rattle.rx_code.specs.Translation.{IsTranslation, goal_at}
 use Rattle.rx_code.specs.declared.code.Code.{Code}
-use Rattle.rx_code.proofs.CodeLawsTranslations.{entry_declared, one_failure, reached_entry, translation_carries, translation_does, translation_made, translation_paired}
-use Rattle.rx_agreement.specs.Agreement.{AgreeOn, ReachConvertible, ReturnAlike, result_of}
+use Rattle.rx_code.proofs.CodeLawsTranslations.{entry_declared, failure_count, reached_entry, translation_carries, translation_does, translation_made, translation_paired}
+use Rattle.rx_agreement.specs.Agreement.{AgreeOn, ReachConvertible, ReturnAlike, code_of, result_of}
 use Rattle.rx_agreement.proofs.Agreement.{carried_code_agrees}
 
 -- what is reached from an inside term is inside
@@ -37,43 +40,54 @@ reached_inside inside R stays s t is Stop = is
 reached_inside inside R stays s t is (Go {t = u} step rest) =
     reached_inside inside R stays u t (stays s u is step) rest
 
-module _ (program : Resolved) (scoped : is_scoped program ≡ true) (f g : ℕ) (parts : RuleParts)
-    (first second : Sym) (t : IsTranslation program f g parts first second) where
+-- each failure of a rule set is the code of an error
+error_of : (integers : Integers) (c : ℕ) → 1 ≤ c → c ≤ length (failure_codes integers) →
+    (e : Failure) × (code_of e ≡ c)
+error_of Unbounded c low high = (Division, omega (arith, low, high))
+error_of Bits32 zero low high = absurd (omega (arith, low))
+error_of Bits32 (suc zero) low high = (Division, refl)
+error_of Bits32 (suc (suc zero)) low high = (Range, refl)
+error_of Bits32 (suc (suc (suc c))) low high = absurd (omega (arith, high))
+
+module _ (integers : Integers) (program : Resolved) (scoped : is_scoped program ≡ true) (f g : ℕ)
+    (parts : RuleParts)
+    (first second : Sym) (t : IsTranslation integers program f g parts first second) where
   abbrev code : Code
-  code = (program_code program t.functions).form
+  code = (program_code integers program t.functions).form
 
   abbrev R : Relation
   R = Instance parts.rules
 
   -- each reached function agrees with its entry
   pub reached_agree : (h : ℕ) → Reached program f g h →
-      AgreeOn program parts.rules h (entry_of code.entries h)
+      AgreeOn integers program parts.rules h (entry_of code.entries h)
   reached_agree h reached arguments count =
-      carried_code_agrees program code (translation_carries program scoped f g parts first second t)
+      carried_code_agrees integers program code
+      (translation_carries integers program scoped f g parts first second t)
       parts
-      (translation_made program scoped f g parts first second t)
-      (translation_paired program scoped f g parts first second t)
-      (translation_does program scoped f g parts first second t)
-      h (entry_of code.entries h) (reached_entry program scoped f g parts first second t h
+      (translation_made integers program scoped f g parts first second t)
+      (translation_paired integers program scoped f g parts first second t)
+      (translation_does integers program scoped f g parts first second t)
+      h (entry_of code.entries h) (reached_entry integers program scoped f g parts first second t h
       (length arguments) reached count) arguments count
 
-  pub first_agrees : AgreeOn program parts.rules f first.0
+  pub first_agrees : AgreeOn integers program parts.rules f first.0
   first_agrees =
-      subst (AgreeOn program parts.rules f) (sym (ap (λ (s : Sym). s.0) t.first_is))
+      subst (AgreeOn integers program parts.rules f) (sym (ap (λ (s : Sym). s.0) t.first_is))
       (reached_agree f IsFirst)
 
-  pub second_agrees : AgreeOn program parts.rules g second.0
+  pub second_agrees : AgreeOn integers program parts.rules g second.0
   second_agrees =
-      subst (AgreeOn program parts.rules g) (sym (ap (λ (s : Sym). s.0) t.second_is))
+      subst (AgreeOn integers program parts.rules g) (sym (ap (λ (s : Sym). s.0) t.second_is))
       (reached_agree g IsSecond)
 
   single : IsSingleValued R
   single =
-      single_valued parts (translation_made program scoped f g parts first second t)
-      (translation_paired program scoped f g parts first second t)
+      single_valued parts (translation_made integers program scoped f g parts first second t)
+      (translation_paired integers program scoped f g parts first second t)
 
   rest : ResultsAreNormal R
-  rest = results_rest parts (translation_made program scoped f g parts first second t)
+  rest = results_rest parts (translation_made integers program scoped f g parts first second t)
 
   -- a result that the first entry reaches is that of an outcome
   answer_of : (arguments : List ℤ) → slice_get (parameter_counts program.functions) f ≡
@@ -84,10 +98,10 @@ module _ (program : Resolved) (scoped : is_scoped program ≡ true) (f g : ℕ) 
       let entry = ap (λ (s : Sym). s.0) t.first_is in
       let declared : Fits (signature parts) (stack.Call first.0 arguments) =
       subst (λ s. Fits (signature parts) (stack.Call s arguments)) (sym entry)
-      (entry_declared program scoped f g parts first second t f (length arguments) IsFirst
+      (entry_declared integers program scoped f g parts first second t f (length arguments) IsFirst
       count) in
       let fits = reached_inside (Fits (signature parts)) R
-      (steps_fit parts (translation_made program scoped f g parts first second t))
+      (steps_fit parts (translation_made integers program scoped f g parts first second t))
       (stack.Call first.0 arguments) u declared reached in
       go u result fits
     where
@@ -95,9 +109,9 @@ module _ (program : Resolved) (scoped : is_scoped program ≡ true) (f g : ℕ) 
           (u ≡ result_of r)
       go (stack.Return k) result fits = (Value k, tt, refl)
       go (stack.Fail c) result fits =
-          let one = one_failure program scoped f g parts first second t in
-          let low = fits.0 in let high = fits.1 in
-          (Error Division, tt, ap stack.Fail (omega (arith, low, high, one)))
+          let count = failure_count integers program scoped f g parts first second t in
+          let e = error_of integers c fits.0 (subst (λ n. c ≤ n) count fits.1) in
+          (Error e.0, tt, ap stack.Fail (sym e.1))
       go (stack.Call s xs) result fits = absurd result
       go (stack.Frame s xs inner) result fits = absurd result
 
@@ -106,7 +120,7 @@ module _ (program : Resolved) (scoped : is_scoped program ≡ true) (f g : ℕ) 
       Some (length arguments) → slice_get (parameter_counts program.functions) g ≡
       Some (length arguments)
       → ReachConvertible parts.rules (stack.Call first.0 arguments) (stack.Call second.0 arguments)
-      → ReturnAlike program f g arguments
+      → ReturnAlike integers program f g arguments
   return_alike arguments count also ends =
       let same = convertible_results_equal R single rest ends.left ends.right ends.left_result
       ends.right_result ends.convertible in
@@ -136,7 +150,7 @@ module _ (program : Resolved) (scoped : is_scoped program ≡ true) (f g : ℕ) 
       (ground_at a (goal_at first second n rows).left)
       (ground_at a (goal_at first second n rows).right))
       → (arguments : List ℤ) → length arguments ≡ n → AllHold (assigned arguments) rows →
-      ReturnAlike program f g arguments
+      ReturnAlike integers program f g arguments
   goal_alike n rows count also ends arguments long meets =
       let left = side_is first n arguments long in
       let right = side_is second n arguments long in

@@ -1,6 +1,6 @@
--- What it means that rules and the meaning of C by the mathematical integers agree: on a function,
--- on two of them, and on a precondition.
-use Rattle.std.specs.Prelude.{◌≡◌, ◌≢◌, ◌↔◌, ℕ, Some, List, length, slice_get, ℤ, pos}
+-- What it means that rules and the meaning of C agree, by a kind of integers: on a function, on two
+-- of them, and on a precondition; and that arguments are integers of the kind.
+use Rattle.std.specs.Prelude.{◌≡◌, ◌≢◌, ◌↔◌, ℕ, true, Some, List, All, length, slice_get, ℤ, pos}
 use Rattle.rx_rewriting.specs.Terms as stack
 use Rattle.rx_rewriting.specs.Terms.{Ground, IsResult}
 use Rattle.rx_rewriting.specs.Steps.{Convertible, Reaches}
@@ -11,9 +11,11 @@ use Rattle.rx_term.specs.Assigned.{assigned}
 use Rattle.rx_code.specs.Preconditions.{pre_rows}
 use Rattle.c_ast.specs.declared.expr.Expr.{Expr}
 use Rattle.c_ast.specs.Scoped.{parameter_counts}
-use Rattle.c_ast.specs.declared.integers.Integers.TheVariants.{Unbounded}
+use Rattle.c_ast.specs.declared.integers.Integers.{Integers}
+use Rattle.c_ast.specs.declared.integers.Integers.TheVariants.{Unbounded, Bits32}
 use Rattle.c_ast.specs.declared.program.Resolved.{Resolved}
 use Rattle.c_meaning.specs.Outcomes.{Failure, Division, Range, Outcome, Value, Error, More, IsAnswer}
+use Rattle.c_meaning.specs.Expressions.{is_int}
 use Rattle.c_meaning.specs.Programs.{Returns, expr_outcome}
 
 -- the code of an error as a failure: 1 for the division error, 2 for the range error
@@ -28,22 +30,23 @@ result_of (Value k) = stack.Return k
 result_of (Error e) = stack.Fail (code_of e)
 result_of More = stack.Fail 0
 
--- on as many arguments as it has parameters the function at the place returns an outcome exactly
--- where its entry at these arguments reaches it
-abbrev pub AgreeOn : Resolved → List Rule → ℕ → ℕ → Type 0
-AgreeOn program rules f symbol =
-    (arguments : List ℤ) → slice_get (parameter_counts program.functions) f ≡
-    Some (length arguments)
-    → (r : Outcome ℤ) → IsAnswer r
-    → Returns Unbounded program f arguments r ↔
-    Reaches (Instance rules) (stack.Call symbol arguments)
-    (result_of r)
+module _ (integers : Integers) where
+  -- on as many arguments as it has parameters, all integers, the function at the place returns an
+  -- outcome exactly where its entry at these arguments reaches it
+  abbrev pub AgreeOn : Resolved → List Rule → ℕ → ℕ → Type 0
+  AgreeOn program rules f symbol =
+      (arguments : List ℤ) → slice_get (parameter_counts program.functions) f ≡
+      Some (length arguments)
+      → (r : Outcome ℤ) → IsAnswer r
+      → Returns integers program f arguments r ↔
+      Reaches (Instance rules) (stack.Call symbol arguments)
+      (result_of r)
 
--- both functions return on the arguments, with one outcome
-pub record ReturnAlike (program : Resolved) (f g : ℕ) (arguments : List ℤ) : Type 0 where
-  pub outcome : Outcome ℤ
-  pub first : Returns Unbounded program f arguments outcome
-  pub second : Returns Unbounded program g arguments outcome
+  -- both functions return on the arguments, with one outcome
+  pub record ReturnAlike (program : Resolved) (f g : ℕ) (arguments : List ℤ) : Type 0 where
+    pub outcome : Outcome ℤ
+    pub first : Returns integers program f arguments outcome
+    pub second : Returns integers program g arguments outcome
 
 -- both terms reach results by the rules, and these are convertible by the rules
 pub record ReachConvertible (rules : List Rule) (s t : Ground) : Type 0 where
@@ -61,3 +64,8 @@ pub record MeansItsRows (program : Resolved) (pre : Expr) (arguments : List ℤ)
   pub value : ℤ
   pub outcome : (n : ℕ) → expr_outcome Unbounded program n pre arguments ≡ Value value
   pub rows : AllHold (assigned arguments) (pre_rows pre).form ↔ (value ≢ pos 0)
+
+-- the arguments are integers of the kind
+abbrev pub AreInts : Integers → List ℤ → Type 0
+AreInts Unbounded arguments = Unit {0}
+AreInts Bits32 arguments = All (λ x. is_int x ≡ true) arguments

@@ -5,6 +5,7 @@
 use Rattle.std.specs.Prelude.{[], ◌∷◌, pos}
 use Rattle.rx_poly.specs.Constants.{number, variable}
 use Rattle.rx_row.specs.declared.row.Row.TheVariants.{Ne}
+use Rattle.c_ast.specs.declared.integers.Integers.TheVariants.{Unbounded}
 use Rattle.c_ast.specs.declared.expr.BinOp.TheVariants.{Div}
 use Rattle.c_ast.specs.declared.expr.Expr.TheVariants.{Lit, Var, Binary, Apply}
 use Rattle.c_ast.specs.declared.program.Function.{Function}
@@ -60,4 +61,4 @@ example_code = record {
 
 -- its rule set
 abbrev pub example_parts : RuleParts
-example_parts = parts_of example_code
+example_parts = parts_of Unbounded example_code

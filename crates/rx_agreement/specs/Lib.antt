@@ -2,4 +2,5 @@
 -- A program of two functions, its rule set and a rank table.
 pub mod Agreement
 pub mod Example
+pub mod RangeExample
 pub mod SoundnessExample

@@ -2,6 +2,8 @@
 //! that meets its premises. Each is a function with an empty body.
 ghost use Rattle.std.specs.Prelude.{◌≡◌, [], ℕ, ℤ, true, List, Some, length, slice_get};
 ghost use Rattle.c_ast.specs.Scoped.{is_scoped, parameter_counts};
+ghost use Rattle.c_ast.specs.declared.integers.Integers.{Integers};
+ghost use Rattle.c_ast.specs.declared.integers.Integers.TheVariants.{Unbounded};
 ghost use Rattle.c_ast.specs.declared.program.Resolved.{Resolved};
 ghost use Rattle.rx_agreement.specs.Agreement.{ReturnAlike};
 ghost use Rattle.rx_code.specs.Translation.{IsTranslation, goal_at};
@@ -17,18 +19,19 @@ ghost use Rattle.rx_term.specs.declared.term.Sym.{Sym};
 
 /// Let there be a translation of two functions of a program, and a proof that their entries are
 /// equal under some rows. Then on all integers that meet the rows, as many as both functions have
-/// parameters, both return, with one outcome, by the meaning of C.
+/// parameters, both return, with one outcome, by the meaning of C and the kind of integers of the
+/// translation.
 pub fn proofs_show_equal_functions()
-    ensures { (program : Resolved) → is_scoped program ≡ true →
+    ensures { (integers : Integers) (program : Resolved) → is_scoped program ≡ true →
         (f g : ℕ) (parts : RuleParts) (first second : Sym) →
-        IsTranslation program f g parts first second →
+        IsTranslation integers program f g parts first second →
         (arguments : List ℤ) (rows : List Row) →
         slice_get (parameter_counts program.functions) f ≡ Some (length arguments) →
         slice_get (parameter_counts program.functions) g ≡ Some (length arguments) →
         AllHold (assigned arguments) rows →
         (hypotheses : List Rule) (table : RankTable) →
         IsProof parts (goal_at first second (length arguments) rows) hypotheses table →
-        ReturnAlike program f g arguments }
+        ReturnAlike integers program f g arguments }
 {}
 
 /// The premises can be met: by two functions that return 0 (`scoped`), their rule set
@@ -36,7 +39,7 @@ pub fn proofs_show_equal_functions()
 /// (`proof`). So both return alike (`alike`).
 pub fn premises_of_equal_functions_can_be_met()
     ensures scoped { is_scoped example ≡ true }
-    ensures translated { IsTranslation example 0 1 parts first second }
+    ensures translated { IsTranslation Unbounded example 0 1 parts first second }
     ensures proof { IsProof parts (goal_at first second 0 []) [] table }
-    ensures alike { ReturnAlike example 0 1 [] }
+    ensures alike { ReturnAlike Unbounded example 0 1 [] }
 {}

@@ -18,12 +18,13 @@ use Rattle.rx_term.specs.WellMade.{IsWellMade, variables_from}
 use Rattle.rx_term.specs.declared.rule_set.RuleParts.{RuleParts}
 use Rattle.rx_term.specs.declared.term.Sym.{Sym}
 use Rattle.rx_plain.proofs.Kept.{first_one, first_or_other, other_one}
+use Rattle.c_ast.specs.declared.integers.Integers.{Integers}
 use Rattle.c_ast.specs.Scoped.{is_scoped, parameter_counts}
 use Rattle.c_ast.specs.declared.program.Function.{Function}
 use Rattle.c_ast.specs.declared.program.Resolved.{Resolved}
 use Rattle.rx_code.specs.Programs.{entry_of, program_code}
 use Rattle.rx_code.specs.Reached.{AreReached, IsFirst, IsSecond, IsRising, Reached, next_number}
-use Rattle.rx_code.specs.Rules.{instruction_within, info_at, parts_of, symbol}
+use Rattle.rx_code.specs.Rules.{failure_codes, instruction_within, info_at, parts_of, symbol}
 use Rattle.rx_code.specs.Translation.{IsBeyond, IsTranslation, goal_at, rules_of}
 use Rattle.rx_code.specs.declared.code.Code.{Code}
 use Rattle.rx_code.specs.declared.point.Opening.{Opening}
@@ -36,37 +37,41 @@ use Rattle.rx_code.proofs.ProgramCode.{entries_opened, entry_first, has_entry, p
 use Rattle.rx_code.proofs.Standing.{rules_do_all}
 use Rattle.rx_code.proofs.Whole.{IsWhole}
 
-module _ (program : Resolved) (scoped : is_scoped program ≡ true) (f g : ℕ) (parts : RuleParts)
-    (first second : Sym) (t : IsTranslation program f g parts first second) where
+module _ (integers : Integers) (program : Resolved) (scoped : is_scoped program ≡ true) (f g : ℕ)
+    (parts : RuleParts) (first second : Sym)
+    (t : IsTranslation integers program f g parts first second) where
   -- the code of the translation
   abbrev code : Code
-  code = (program_code program t.functions).form
+  code = (program_code integers program t.functions).form
 
-  both_within : ((program_code program t.functions).within ≡ true) ×
+  both_within : ((program_code integers program t.functions).within ≡ true) ×
       (list_all instruction_within code.instructions ≡ true)
   both_within =
-      and_parts (program_code program t.functions).within
+      and_parts (program_code integers program t.functions).within
       (list_all instruction_within code.instructions) t.within
 
-  pub translation_whole : IsWhole code
+  pub translation_whole : IsWhole integers code
   translation_whole =
-      program_whole program scoped f g t.functions t.reached both_within.0 both_within.1
+      program_whole integers program scoped f g t.functions t.reached both_within.0 both_within.1
 
-  pub translation_carries : CarriesProgram program code
+  pub translation_carries : CarriesProgram integers program code
   translation_carries =
-      program_carried program scoped f g t.functions t.reached both_within.0 both_within.1
+      program_carried integers program scoped f g t.functions t.reached both_within.0 both_within.1
 
   pub translation_made : IsWellMade parts
-  translation_made = subst IsWellMade (sym t.parts_are) (whole_made code translation_whole)
+  translation_made =
+      subst IsWellMade (sym t.parts_are) (whole_made integers code translation_whole)
 
   pub translation_paired : IsPaired parts
-  translation_paired = subst IsPaired (sym t.parts_are) (whole_paired code translation_whole)
+  translation_paired =
+      subst IsPaired (sym t.parts_are) (whole_paired integers code translation_whole)
 
-  pub translation_does : DoAll (Instance parts.rules) (entry_of code.entries) (acts_in code)
+  pub translation_does : DoAll integers (Instance parts.rules) (entry_of code.entries)
+      (acts_in code)
   translation_does =
-      let P : RuleParts → Type 0 = λ ps. DoAll (Instance ps.rules) (entry_of code.entries)
+      let P : RuleParts → Type 0 = λ ps. DoAll integers (Instance ps.rules) (entry_of code.entries)
       (acts_in code) in
-      subst P (sym t.parts_are) (rules_do_all code translation_whole)
+      subst P (sym t.parts_are) (rules_do_all integers code translation_whole)
 
   -- a reached function that is there has its entry
   pub reached_entry : (h count : ℕ) → Reached program f g h →
@@ -74,10 +79,11 @@ module _ (program : Resolved) (scoped : is_scoped program ≡ true) (f g : ℕ) 
       Contains code.entries (h, entry_of code.entries h)
   reached_entry h count reached is =
       let found = was_at (λ (k : Function). length k.params) program.functions h count is in
-      let entry = has_entry program.functions t.functions 0 h found.0
+      let entry = has_entry integers program.functions t.functions 0 h found.0
       ((t.reached.members h).1 reached) found.1 in
       subst (λ (s : ℕ). Contains code.entries (h, s))
-      (sym (entry_first program.functions t.functions 0 t.reached.in_order h entry.0 entry.1))
+      (sym (entry_first integers program.functions t.functions 0 t.reached.in_order h entry.0
+      entry.1))
       entry.1
 
   -- the entry of a reached function is declared as a point with as many arguments as the function
@@ -87,7 +93,7 @@ module _ (program : Resolved) (scoped : is_scoped program ≡ true) (f g : ℕ) 
       Declares (signature parts) (entry_of code.entries h) false count
   entry_declared h count reached is =
       let entry = entry_of code.entries h in
-      let opened = entries_opened program scoped f g t.functions t.reached both_within.0
+      let opened = entries_opened integers program scoped f g t.functions t.reached both_within.0
       both_within.1 h count (record {
         symbol = entry;
         begins = reached_entry h count reached is;
@@ -95,8 +101,8 @@ module _ (program : Resolved) (scoped : is_scoped program ≡ true) (f g : ℕ) 
       }) in
       let P : RuleParts → Type 0 = λ ps. Declares (signature ps) entry false count in
       subst P (sym t.parts_are)
-      (slice_get-map symbol_of (parts_of code).symbols entry
-      ∙ ap (option_map symbol_of) (symbol_at code entry ∙
+      (slice_get-map symbol_of (parts_of integers code).symbols entry
+      ∙ ap (option_map symbol_of) (symbol_at integers code entry ∙
       ap (option_map (λ (o : Opening). info_at code (entry, o))) opened))
 
   -- the call of the entry on variables fits
@@ -105,7 +111,7 @@ module _ (program : Resolved) (scoped : is_scoped program ≡ true) (f g : ℕ) 
       term_fits parts (Call (symbol (entry_of code.entries h)) (variables_from 0 count)) ≡ true
   entry_fits h count reached is =
       let entry = entry_of code.entries h in
-      let opened = entries_opened program scoped f g t.functions t.reached both_within.0
+      let opened = entries_opened integers program scoped f g t.functions t.reached both_within.0
       both_within.1 h count (record {
         symbol = entry;
         begins = reached_entry h count reached is;
@@ -114,7 +120,7 @@ module _ (program : Resolved) (scoped : is_scoped program ≡ true) (f g : ℕ) 
       fits-Call parts (symbol entry) (variables_from 0 count)
       ∙ ap (is_declared parts.symbols (symbol entry) false) (length-variables_from 0 count)
       ∙ ap (λ (ps : RuleParts). is_declared ps.symbols (symbol entry) false count) t.parts_are
-      ∙ declared code entry count false opened
+      ∙ declared integers code entry count false opened
 
   pub left_fits : (n : ℕ) (rows : List Row) → slice_get (parameter_counts program.functions) f ≡
       Some n → term_fits parts (goal_at first second n rows).left ≡ true
@@ -128,9 +134,9 @@ module _ (program : Resolved) (scoped : is_scoped program ≡ true) (f g : ℕ) 
       ap (λ (a : Sym). term_fits parts (Call a (variables_from 0 n))) t.second_is ∙
       entry_fits g n IsSecond is
 
-  -- the first failure is the only one
-  pub one_failure : parts.fails ≡ 1
-  one_failure = ap (λ (ps : RuleParts). ps.fails) t.parts_are
+  -- there are as many failures as codes of the kind
+  pub failure_count : parts.fails ≡ length (failure_codes integers)
+  failure_count = ap (λ (ps : RuleParts). ps.fails) t.parts_are
 
 -- ---- one translation
 
@@ -183,25 +189,31 @@ pub record SameTranslation (parts others : RuleParts) (first second third fourth
     pub first_same : first ≡ third
     pub second_same : second ≡ fourth
 
-pub one_translation : (program : Resolved) (f g : ℕ) (parts others : RuleParts)
-    (first second third fourth : Sym) → IsTranslation program f g parts first second →
-    IsTranslation program f g others third fourth
+pub one_translation : (integers : Integers) (program : Resolved) (f g : ℕ)
+    (parts others : RuleParts)
+    (first second third fourth : Sym) → IsTranslation integers program f g parts first second →
+    IsTranslation integers program f g others third fourth
     → SameTranslation parts others first second third fourth
-one_translation program f g parts others first second third fourth one two =
+one_translation integers program f g parts others first second third fourth one two =
     let same = same_functions program f g one.functions two.functions one.reached two.reached in
     record {
-      parts_same = one.parts_are ∙ ap (λ fs. (rules_of program fs).form) same ∙ sym two.parts_are;
+      parts_same = one.parts_are ∙ ap (λ fs. (rules_of integers program fs).form) same ∙
+          sym two.parts_are;
       first_same =
-          one.first_is ∙ ap (λ fs. symbol (entry_of (program_code program fs).form.entries f)) same
+          one.first_is ∙ ap (λ fs. symbol (entry_of
+          (program_code integers program fs).form.entries f)) same
           ∙ sym two.first_is;
       second_same =
-          one.second_is ∙ ap (λ fs. symbol (entry_of (program_code program fs).form.entries g)) same
+          one.second_is ∙ ap (λ fs. symbol
+          (entry_of (program_code integers program fs).form.entries g)) same
           ∙ sym two.second_is;
     }
 
 -- what is within the limits isn't beyond them
-pub not_beyond : (program : Resolved) (f g : ℕ) (parts : RuleParts) (first second : Sym) →
-    IsTranslation program f g parts first second → IsBeyond program f g → ⊥
-not_beyond program f g parts first second t beyond =
+pub not_beyond : (integers : Integers) (program : Resolved) (f g : ℕ) (parts : RuleParts)
+    (first second : Sym) →
+    IsTranslation integers program f g parts first second → IsBeyond integers program f g → ⊥
+not_beyond integers program f g parts first second t beyond =
     let same = same_functions program f g t.functions beyond.functions t.reached beyond.reached in
-    true≢false (sym t.within ∙ ap (λ fs. (rules_of program fs).within) same ∙ beyond.beyond)
+    true≢false (sym t.within ∙ ap (λ fs. (rules_of integers program fs).within) same ∙
+    beyond.beyond)

@@ -3,16 +3,19 @@
 use Rattle.std.proofs.Common.{◌≡◌, ◌∙◌, ap, sym, subst, refl, Bool, if◌then◌else◌, ℕ, zero, suc, ◌+◌, List, [], ◌∷◌, ◌++◌, length, map, pos, arith, length-append}
 use Rattle.std.specs.Prelude.{nat_eq}
 use Rattle.rx_poly.specs.Constants.{number}
+use Rattle.rx_poly.specs.declared.body.Body.{Body}
 use Rattle.rx_row.specs.declared.row.Row.TheVariants.{Ne}
+use Rattle.c_ast.specs.declared.integers.Integers.{Integers}
+use Rattle.c_ast.specs.declared.integers.Integers.TheVariants.{Unbounded, Bits32}
 use Rattle.c_ast.specs.declared.expr.UnOp.{UnOp}
 use Rattle.c_ast.specs.declared.expr.UnOp.TheVariants as un
 use Rattle.c_ast.specs.declared.expr.BinOp.{BinOp}
 use Rattle.c_ast.specs.declared.expr.BinOp.TheVariants as bin
 use Rattle.c_ast.specs.declared.expr.Expr.{Expr}
-use Rattle.rx_code.specs.Expressions.{Asked, Condition, Value, arguments, arithmetic, binary_code, call, choice, comparison, conjunction, disjunction, division, expr_code, kind_of, of_condition, of_value, operands, test_of, unary_code}
+use Rattle.rx_code.specs.Expressions.{Asked, Condition, Value, above, arguments, arithmetic, below, binary_code, call, choice, comparison, conjunction, disjunction, division, expr_code, kind_of, of_condition, of_value, operands, range_tests, ranged, test_of, tested_by, unary_code}
 use Rattle.rx_code.specs.Pieces.{a_frame, a_point, append_code, after, does, opens, point}
 use Rattle.rx_code.specs.declared.action.Action.{Action}
-use Rattle.rx_code.specs.declared.action.Action.TheVariants.{Set, Test, Divide, Call, Resume}
+use Rattle.rx_code.specs.declared.action.Action.TheVariants.{Set, Test, Exclude, Divide, Call, Resume}
 use Rattle.rx_code.specs.declared.action.Instruction.{Instruction}
 use Rattle.rx_code.specs.declared.action.Division.{Division}
 use Rattle.rx_code.specs.declared.action.Division.TheVariants.{Quotient, Remainder}
@@ -191,18 +194,6 @@ module _ (x : ℕ) where
         entries = no_entries c (append_code (opens os) (does b y)) is.entries refl;
       }
 
-  arithmetic_counted : (op : BinOp) (l r : Asked) → CountsExpr l → CountsExpr r →
-      CountsExpr (arithmetic op l r)
-  arithmetic_counted op l r left right = by_value _ (λ a next. operands_open l r left right a next)
-
-  division_counted : (d : Division) (l r : Asked) → CountsExpr l → CountsExpr r →
-      CountsExpr (division d l r)
-  division_counted d l r left right = by_value _ (λ a next.
-      let t = operands l r a next in
-      opened_after next a t.at t.code (t.at.width + 1)
-      (Divide d t.left t.right (point (after next t.code) (t.at.width + 1)))
-      (operands_open l r left right a next))
-
   comparison_counted : (op : BinOp) (l r : Asked) → CountsExpr l → CountsExpr r →
       CountsExpr (comparison op l r)
   comparison_counted op l r left right = by_condition _ (λ a p q next.
@@ -280,27 +271,6 @@ module _ (x : ℕ) where
             (no_entries p.code middle first.entries (no_entries q.code set_q second.entries refl));
       })
 
-  unary_counted : (op : UnOp) (y : Asked) → CountsExpr y → CountsExpr (unary_code op y)
-  unary_counted un.Plus y is = by_value _ is.value
-  unary_counted un.Minus y is = by_value _ is.value
-  unary_counted un.Not y is = by_condition _ (λ a p q next. is.condition a q p next)
-
-  binary_counted : (op : BinOp) (l r : Asked) → CountsExpr l → CountsExpr r →
-      CountsExpr (binary_code (kind_of op) op l r)
-  binary_counted bin.Add l r left right = arithmetic_counted bin.Add l r left right
-  binary_counted bin.Sub l r left right = arithmetic_counted bin.Sub l r left right
-  binary_counted bin.Mul l r left right = arithmetic_counted bin.Mul l r left right
-  binary_counted bin.Div l r left right = division_counted Quotient l r left right
-  binary_counted bin.Rem l r left right = division_counted Remainder l r left right
-  binary_counted bin.Lt l r left right = comparison_counted bin.Lt l r left right
-  binary_counted bin.Le l r left right = comparison_counted bin.Le l r left right
-  binary_counted bin.Gt l r left right = comparison_counted bin.Gt l r left right
-  binary_counted bin.Ge l r left right = comparison_counted bin.Ge l r left right
-  binary_counted bin.Eq l r left right = comparison_counted bin.Eq l r left right
-  binary_counted bin.Ne l r left right = comparison_counted bin.Ne l r left right
-  binary_counted bin.AndAlso l r left right = conjunction_counted l r left right
-  binary_counted bin.OrElse l r left right = disjunction_counted l r left right
-
   call_counted : (f : ℕ) (ys : List Asked) → ((a : Point) (next : ℕ) →
       Open x next a (arguments ys a next).at (arguments ys a next).code) → CountsExpr (call f ys)
   call_counted f ys each = by_value _ (λ a next.
@@ -326,39 +296,106 @@ module _ (x : ℕ) where
         entries = no_entries xs.code (append_code (opens os) ends) is.entries refl;
       })
 
-  mutual
-    expr_tree_counted : (e : Expr) → ExprTree e → CountsExpr (expr_code e)
-    expr_tree_counted e (tree.Literal k) =
-        subst CountsExpr (sym (code-Lit k)) (by_value _
-        (λ a next. record { counts = omega arith; entries = refl }))
-    expr_tree_counted e (tree.Variable v) =
-        subst CountsExpr (sym (code-Var v)) (by_value _
-        (λ a next. record { counts = omega arith; entries = refl }))
-    expr_tree_counted e (tree.OneOperand op f inner) =
-        subst CountsExpr (sym (code-Unary op f))
-        (unary_counted op (expr_code f) (expr_tree_counted f inner))
-    expr_tree_counted e (tree.TwoOperands op f g left right) =
-        subst CountsExpr (sym (code-Binary op f g))
-        (binary_counted op (expr_code f) (expr_code g) (expr_tree_counted f left)
-        (expr_tree_counted g right))
-    expr_tree_counted e (tree.Chosen c f g test left right) =
-        subst CountsExpr (sym (code-Choose c f g))
-        (choice_counted (expr_code c) (expr_code f) (expr_code g) (expr_tree_counted c test)
-        (expr_tree_counted f left) (expr_tree_counted g right))
-    expr_tree_counted e (tree.Applied f es inner) =
-        subst CountsExpr (sym (code-Apply f es))
-        (call_counted f (map expr_code es) (expr_trees_counted es inner))
+  -- a value that is tested, and what is tested at once
+  range_counted : (p : Body) (a : Point) (next : ℕ) →
+      Open x next a (range_tests p a next).at (range_tests p a next).code
+  range_counted p a next =
+      let h = point next a.width in
+      let b = point (next + 1) a.width in
+      let os = a_point a.width ∷ a_point a.width ∷ [] in
+      let over = does a (Exclude (above p).form h) in
+      let under = does h (Exclude (below p).form b) in
+      let one = joined x next (opens os) (append_code over under) in
+      let two = joined x (next + 2) over under in
+      let s = two_from next x in
+      record {
+        counts =
+            let d1 = one.instructions in let s1 = one.symbols in let d2 = two.instructions in
+            let s2 = two.symbols in omega (arith, d1, s1, d2, s2, s);
+        entries = refl;
+      }
 
-    expr_trees_counted : (es : List Expr) → ExprTrees es → (a : Point) (next : ℕ) →
-        Open x next a (arguments (map expr_code es) a next).at
-        (arguments (map expr_code es) a next).code
-    expr_trees_counted es tree.NoTree a next = record { counts = omega arith; entries = refl }
-    expr_trees_counted es (tree.OneMore e fs first rest) a next =
-        let v = (expr_code e).value a next in
-        let xs = arguments (map expr_code fs) v.at (after next v.code) in
-        open_open x next a v.at xs.at v.code xs.code ((expr_tree_counted e first).value a next)
-        (expr_trees_counted fs rest v.at (after next v.code))
+  ranged_counted : (integers : Integers) (value : Value) → ((a : Point) (next : ℕ) →
+      Open x next a (value a next).at (value a next).code) → (a : Point) (next : ℕ)
+      → Open x next a (ranged integers value a next).at (ranged integers value a next).code
+  ranged_counted Unbounded value is a next = is a next
+  ranged_counted Bits32 value is a next =
+      let v = value a next in
+      let t = range_tests v.value v.at (after next v.code) in
+      open_open x next a v.at t.at v.code t.code (is a next)
+      (range_counted v.value v.at (after next v.code))
 
-  -- the code of each expression is so
-  pub expr_counted : (e : Expr) → CountsExpr (expr_code e)
-  expr_counted e = expr_tree_counted e (tree.expr_tree e)
+  module _ (integers : Integers) where
+    arithmetic_counted : (op : BinOp) (l r : Asked) → CountsExpr l → CountsExpr r →
+        CountsExpr (arithmetic integers op l r)
+    arithmetic_counted op l r left right =
+        by_value _ (ranged_counted integers _ (λ a next. operands_open l r left right a next))
+
+    division_counted : (d : Division) (l r : Asked) → CountsExpr l → CountsExpr r →
+        CountsExpr (division integers d l r)
+    division_counted d l r left right =
+        by_value _ (ranged_counted (tested_by integers d) _ (λ a next.
+        let t = operands l r a next in
+        opened_after next a t.at t.code (t.at.width + 1)
+        (Divide d t.left t.right (point (after next t.code) (t.at.width + 1)))
+        (operands_open l r left right a next)))
+
+    unary_counted : (op : UnOp) (y : Asked) → CountsExpr y → CountsExpr (unary_code integers op y)
+    unary_counted un.Plus y is = by_value _ is.value
+    unary_counted un.Minus y is = by_value _ (ranged_counted integers _ is.value)
+    unary_counted un.Not y is = by_condition _ (λ a p q next. is.condition a q p next)
+
+    binary_counted : (op : BinOp) (l r : Asked) → CountsExpr l → CountsExpr r →
+        CountsExpr (binary_code integers (kind_of op) op l r)
+    binary_counted bin.Add l r left right = arithmetic_counted bin.Add l r left right
+    binary_counted bin.Sub l r left right = arithmetic_counted bin.Sub l r left right
+    binary_counted bin.Mul l r left right = arithmetic_counted bin.Mul l r left right
+    binary_counted bin.Div l r left right = division_counted Quotient l r left right
+    binary_counted bin.Rem l r left right = division_counted Remainder l r left right
+    binary_counted bin.Lt l r left right = comparison_counted bin.Lt l r left right
+    binary_counted bin.Le l r left right = comparison_counted bin.Le l r left right
+    binary_counted bin.Gt l r left right = comparison_counted bin.Gt l r left right
+    binary_counted bin.Ge l r left right = comparison_counted bin.Ge l r left right
+    binary_counted bin.Eq l r left right = comparison_counted bin.Eq l r left right
+    binary_counted bin.Ne l r left right = comparison_counted bin.Ne l r left right
+    binary_counted bin.AndAlso l r left right = conjunction_counted l r left right
+    binary_counted bin.OrElse l r left right = disjunction_counted l r left right
+
+    mutual
+      expr_tree_counted : (e : Expr) → ExprTree e → CountsExpr (expr_code integers e)
+      expr_tree_counted e (tree.Literal k) =
+          subst CountsExpr (sym (code-Lit integers k)) (by_value _
+          (λ a next. record { counts = omega arith; entries = refl }))
+      expr_tree_counted e (tree.Variable v) =
+          subst CountsExpr (sym (code-Var integers v)) (by_value _
+          (λ a next. record { counts = omega arith; entries = refl }))
+      expr_tree_counted e (tree.OneOperand op f inner) =
+          subst CountsExpr (sym (code-Unary integers op f))
+          (unary_counted op (expr_code integers f) (expr_tree_counted f inner))
+      expr_tree_counted e (tree.TwoOperands op f g left right) =
+          subst CountsExpr (sym (code-Binary integers op f g))
+          (binary_counted op (expr_code integers f) (expr_code integers g)
+          (expr_tree_counted f left)
+          (expr_tree_counted g right))
+      expr_tree_counted e (tree.Chosen c f g test left right) =
+          subst CountsExpr (sym (code-Choose integers c f g))
+          (choice_counted (expr_code integers c) (expr_code integers f) (expr_code integers g)
+          (expr_tree_counted c test)
+          (expr_tree_counted f left) (expr_tree_counted g right))
+      expr_tree_counted e (tree.Applied f es inner) =
+          subst CountsExpr (sym (code-Apply integers f es))
+          (call_counted f (map (expr_code integers) es) (expr_trees_counted es inner))
+
+      expr_trees_counted : (es : List Expr) → ExprTrees es → (a : Point) (next : ℕ) →
+          Open x next a (arguments (map (expr_code integers) es) a next).at
+          (arguments (map (expr_code integers) es) a next).code
+      expr_trees_counted es tree.NoTree a next = record { counts = omega arith; entries = refl }
+      expr_trees_counted es (tree.OneMore e fs first rest) a next =
+          let v = (expr_code integers e).value a next in
+          let xs = arguments (map (expr_code integers) fs) v.at (after next v.code) in
+          open_open x next a v.at xs.at v.code xs.code ((expr_tree_counted e first).value a next)
+          (expr_trees_counted fs rest v.at (after next v.code))
+
+    -- the code of each expression is so
+    pub expr_counted : (e : Expr) → CountsExpr (expr_code integers e)
+    expr_counted e = expr_tree_counted e (tree.expr_tree e)

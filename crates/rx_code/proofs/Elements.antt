@@ -1,5 +1,5 @@
 -- Elements of lists that are joined, and of numbered lists.
-use Rattle.std.proofs.Common.{◌≡◌, sym, subst, inl, inr, ℕ, zero, suc, ◌+◌, Some, List, [], ◌∷◌, ◌++◌, arith}
+use Rattle.std.proofs.Common.{◌≡◌, sym, subst, inl, inr, ℕ, zero, suc, ◌+◌, Some, List, [], ◌∷◌, ◌++◌, map, arith}
 use Rattle.std.specs.Prelude.{All, Contains, slice_get}
 use Rattle.std.specs.List.{enumerate_from, flat_map}
 use Rattle.std.proofs.lemmas.Option.{same_Some}
@@ -54,6 +54,17 @@ from_flat_map f (x ∷ xs) y there =
             inside =
                 rest.inside;
           })
+    ]
+
+-- the element of a list that is made of another list's elements
+pub in_map : {X Y : Type 0} (f : X → Y) (xs : List X) (x : X) → Contains xs x →
+    Contains (map f xs) (f x)
+in_map f [] x there = absurd (no_element x there)
+in_map {X} {Y} f (z ∷ zs) x there =
+    elim (first_or_other z zs x there) [
+      | inl same ↦ subst (λ (v : X). Contains (map f (z ∷ zs)) (f v)) same
+          (first_one (f z) (map f zs))
+      | inr other ↦ other_one (f z) (map f zs) (f x) (in_map f zs x other)
     ]
 
 -- a numbered list

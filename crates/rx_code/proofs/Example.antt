@@ -6,7 +6,9 @@ use Rattle.c_ast.specs.declared.expr.Expr.TheVariants.{Lit, Var, Unary, Binary}
 use Rattle.c_ast.specs.declared.program.Function.{Function}
 use Rattle.rx_plain.specs.Formed.{Formed, pure}
 use Rattle.rx_poly.specs.Constants.{number, variable}
-use Rattle.rx_code.specs.Example.{walks, walks_parts, idle, walk, add, sums, sums_parts, division, division_parts, forms, forms_parts, up, rec, dropped, zero, mixed, between, between_rows}
+use Rattle.c_ast.specs.declared.integers.Integers.{Integers}
+use Rattle.c_ast.specs.declared.integers.Integers.TheVariants.{Unbounded, Bits32}
+use Rattle.rx_code.specs.Example.{again, halves, ranges, ranges_parts, walks, walks_parts, idle, walk, add, sums, sums_parts, division, division_parts, forms, forms_parts, up, rec, dropped, zero, mixed, between, between_rows}
 use Rattle.rx_code.specs.Pieces.{no_code, append_code, after}
 use Rattle.rx_code.specs.Preconditions.{Read, of_polynomial, unary_read, binary_read, read_expr, pre_rows}
 use Rattle.rx_code.specs.Programs.{body_code, places_code, program_code}
@@ -37,29 +39,35 @@ pair n ts m us =
           (d.within && true);
     }
 
-one_of : (f : Function) {ts : List Compiled} → StmtsAre f.body ts →
-    parts_of (places_code (f ∷ []) (0 ∷ []) 0).form ≡ parts_of (one (length f.params) ts)
-one_of f p i = parts_of (one (length f.params) (p.are i))
+one_of : (f : Function) {ts : List Compiled} → StmtsAre Unbounded f.body ts →
+    parts_of Unbounded (places_code Unbounded (f ∷ []) (0 ∷ []) 0).form ≡
+    parts_of Unbounded (one (length f.params) ts)
+one_of f p i = parts_of Unbounded (one (length f.params) (p.are i))
 
-two_of : (f g : Function) {ts us : List Compiled} → StmtsAre f.body ts → StmtsAre g.body us
-    → parts_of (places_code (f ∷ g ∷ []) (0 ∷ 1 ∷ []) 0).form ≡
-    parts_of (two (length f.params) ts (length g.params) us)
-two_of f g p q i = parts_of (two (length f.params) (p.are i) (length g.params) (q.are i))
+two_of : (integers : Integers) (f g : Function) {ts us : List Compiled} →
+    StmtsAre integers f.body ts → StmtsAre integers g.body us
+    → parts_of integers (places_code integers (f ∷ g ∷ []) (0 ∷ 1 ∷ []) 0).form ≡
+    parts_of integers (two (length f.params) ts (length g.params) us)
+two_of integers f g p q i =
+    parts_of integers (two (length f.params) (p.are i) (length g.params) (q.are i))
 
 -- of three functions the last two
-pub last_two : (e f g : Function) {ts us : List Compiled} → StmtsAre f.body ts → StmtsAre g.body us
-    → places_code (e ∷ f ∷ g ∷ []) (1 ∷ 2 ∷ []) 0 ≡ pair (length f.params) ts (length g.params) us
-last_two e f g p q i = pair (length f.params) (p.are i) (length g.params) (q.are i)
+pub last_two : (integers : Integers) (e f g : Function) {ts us : List Compiled} →
+    StmtsAre integers f.body ts → StmtsAre integers g.body us
+    → places_code integers (e ∷ f ∷ g ∷ []) (1 ∷ 2 ∷ []) 0 ≡
+    pair (length f.params) ts (length g.params) us
+last_two integers e f g p q i = pair (length f.params) (p.are i) (length g.params) (q.are i)
 
-pub division_compiled : parts_of (program_code division (0 ∷ 1 ∷ [])).form ≡ division_parts
+pub division_compiled : parts_of Unbounded (program_code Unbounded division (0 ∷ 1 ∷ [])).form ≡
+    division_parts
 division_compiled =
-    two_of dropped zero (statement (returns (binary bin.Mul (lit (pos 0))
+    two_of Unbounded dropped zero (statement (returns (binary bin.Mul (lit (pos 0))
     (binary bin.Div (lit (pos 1)) (var 0)))) no_statement)
     (statement (returns (lit (pos 0))) no_statement)
 
-pub sums_compiled : parts_of (program_code sums (0 ∷ 1 ∷ [])).form ≡ sums_parts
+pub sums_compiled : parts_of Unbounded (program_code Unbounded sums (0 ∷ 1 ∷ [])).form ≡ sums_parts
 sums_compiled =
-    two_of up rec (statement (declare 1 (lit (pos 0)))
+    two_of Unbounded up rec (statement (declare 1 (lit (pos 0)))
     (statement (for_loop (statement (declare 2 (lit (pos 1))) no_statement)
     (binary bin.Le (var 2) (var 0)) (part (assign 2 (binary bin.Add (var 2) (lit (pos 1)))))
     (assign 1 (binary bin.Add (var 1) (var 2)))) (statement (returns (var 1)) no_statement)))
@@ -67,7 +75,7 @@ sums_compiled =
     (statement (returns (binary bin.Add (var 0)
     (apply 1 (argument (binary bin.Sub (var 0) (lit (pos 1))) no_argument)))) no_statement))
 
-pub forms_compiled : parts_of (program_code forms (0 ∷ [])).form ≡ forms_parts
+pub forms_compiled : parts_of Unbounded (program_code Unbounded forms (0 ∷ [])).form ≡ forms_parts
 forms_compiled =
     one_of mixed (statement (do_loop (block (statement
     (if_else (binary bin.OrElse (unary un.Not (binary bin.Lt (var 0) (var 1)))
@@ -81,8 +89,9 @@ forms_compiled =
     (binary bin.Sub (binary bin.Lt (var 0) (lit (pos 2))) (var 1))))
     (statement (returns (unary un.Plus (binary bin.Gt (var 0) (var 1)))) no_statement))
 
-pub walks_compiled : parts_of (program_code walks (1 ∷ 2 ∷ [])).form ≡ walks_parts
-walks_compiled i = parts_of (last_two idle walk add
+pub walks_compiled : parts_of Unbounded (program_code Unbounded walks (1 ∷ 2 ∷ [])).form ≡
+    walks_parts
+walks_compiled i = parts_of Unbounded (last_two Unbounded idle walk add
     (statement (declare_zero 2) (statement (assign 2 (binary bin.AndAlso (var 0) (var 1)))
     (statement (for_ever no_statement no_part
     (block (statement empty (statement (if_else
@@ -99,6 +108,14 @@ walks_compiled i = parts_of (last_two idle walk add
     (statement (returns (var 2)) no_statement))))
     (statement (block no_statement) (statement (returns (binary bin.Add (var 0) (var 1)))
     no_statement)) i).form
+
+pub ranges_compiled : parts_of Bits32 (program_code Bits32 ranges (0 ∷ 1 ∷ [])).form ≡
+    ranges_parts
+ranges_compiled =
+    two_of Bits32 halves again (statement (returns (binary bin.Add
+    (binary bin.Div (unary un.Minus (var 0)) (lit (pos 2)))
+    (binary bin.Rem (var 1) (lit (pos 3))))) no_statement)
+    (statement (returns (apply 0 (argument (var 1) (argument (var 0) no_argument)))) no_statement)
 
 pub between_read : (pre_rows between).form ≡ between_rows
 between_read =

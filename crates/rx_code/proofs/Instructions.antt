@@ -1,8 +1,9 @@
 -- The rules of an action do what it says.
-use Rattle.std.proofs.Common.{◌≡◌, ◌∙◌, ap, sym, refl, ℕ, suc, ◌+◌, ◌<◌, List, [], ◌∷◌, ◌++◌, length, take, drop, ℤ, arith}
+use Rattle.std.proofs.Common.{◌≡◌, ◌∙◌, ap, sym, refl, ℕ, suc, ◌+◌, ◌<◌, List, [], ◌∷◌, ◌++◌, length, map, take, drop, ℤ, arith}
 use Rattle.std.specs.Prelude.{Contains}
 use Rattle.std.proofs.lemmas.List.{take-map, drop-map, map-append}
 use Rattle.std.proofs.lemmas.List.Elements.{All-cons, All-nil}
+use Rattle.c_ast.specs.declared.integers.Integers.{Integers}
 use Rattle.rx_poly.specs.Constants.{variable}
 use Rattle.rx_poly.specs.Value.{value}
 use Rattle.rx_poly.specs.declared.body.Body.{Body}
@@ -24,13 +25,14 @@ use Rattle.rx_term.specs.declared.term.Term.TheVariants as term
 use Rattle.rx_plain.proofs.Kept.{first_one, other_one}
 use Rattle.rx_term.proofs.Equations.{ground-Call, ground-Fail, ground-Frame, ground-Return}
 use Rattle.rx_code.specs.Points.{division_result, with_element}
-use Rattle.rx_code.specs.Rules.{always, call_of, divided, jump, rules_of_action, symbol, variables_of, where_holds}
+use Rattle.rx_code.specs.Rules.{always, call_of, divided, failure_codes, jump, over_failure, over_value, rules_of_action, symbol, variables_of, where_holds}
 use Rattle.rx_code.specs.declared.action.Action.{Action}
-use Rattle.rx_code.specs.declared.action.Action.TheVariants.{Go, Set, Test, Divide, Call, Resume, Return}
+use Rattle.rx_code.specs.declared.action.Action.TheVariants.{Go, Set, Test, Exclude, Divide, Call, Resume, Return}
 use Rattle.rx_code.specs.declared.action.Division.{Division}
 use Rattle.rx_code.specs.declared.action.Division.TheVariants.{Quotient, Remainder}
 use Rattle.rx_code.specs.declared.point.Point.{Point}
 use Rattle.rx_code.specs.Doing.{Does, at_point}
+use Rattle.rx_code.proofs.Elements.{in_map}
 use Rattle.rx_code.proofs.Lists.{assigned-append, assigned-next}
 
 -- ---- values at a list of integers
@@ -133,20 +135,20 @@ module _ (rules : List Rule) where
   second_of_two r q among = among q (other_one r (q ∷ []) q (first_one q []))
 
   -- a step does what the action says
-  pub rules_do : (entry : ℕ → ℕ) (a : Point) (x : Action) → Among (rules_of_action entry a x) →
-      Does (Instance rules) entry a x
-  rules_do entry a (Go z) among = λ xs long.
+  pub rules_do : (integers : Integers) (entry : ℕ → ℕ) (a : Point) (x : Action) →
+      Among (rules_of_action integers entry a x) → Does integers (Instance rules) entry a x
+  rules_do integers entry a (Go z) among = λ xs long.
       steps_always (assigned xs) (call_of a) (jump z (variables_of a)) _ _ (only_one _ among)
       (ground-call_of a xs long)
       (sym (ground-jump (assigned xs) z (variables_of a) xs (variables_alone a xs long)))
-  rules_do entry a (Set k p z) among = λ xs long.
+  rules_do integers entry a (Set k p z) among = λ xs long.
       let α = assigned xs in
       steps_always α (call_of a) (jump z (with_element k p (variables_of a))) _ _ (only_one _ among)
       (ground-call_of a xs long)
       (sym (ground-jump α z (with_element k p (variables_of a)) (with_element k (value α p) xs)
       (values-with_element α k p (variables_of a) ∙
       ap (with_element k (value α p)) (variables_alone a xs long))))
-  rules_do entry a (Test row y w) among = λ xs long.
+  rules_do integers entry a (Test row y w) among = λ xs long.
       let α = assigned xs in
       let lead : (z : Point) → at_point z xs ≡ ground_at α (jump z (variables_of a)) = λ z.
       sym (ground-jump α z (variables_of a) xs (variables_alone a xs long)) in (
@@ -155,7 +157,15 @@ module _ (rules : List Rule) where
         λ holds. steps_where α (negation row) (call_of a) (jump w (variables_of a)) _ _
             (second_of_two _ _ among) holds (ground-call_of a xs long) (lead w),
       )
-  rules_do entry a (Divide d p q z) among = λ xs long.
+  rules_do integers entry a (Exclude row z) among = λ xs long.
+      let α = assigned xs in (
+        λ holds. steps_where α row (call_of a) (term.Fail 2) _ _ (first_of_two _ _ among) holds
+            (ground-call_of a xs long) (sym (ground-Fail α 2)),
+        λ holds. steps_where α (negation row) (call_of a) (jump z (variables_of a)) _ _
+            (second_of_two _ _ among) holds (ground-call_of a xs long)
+            (sym (ground-jump α z (variables_of a) xs (variables_alone a xs long))),
+      )
+  rules_do integers entry a (Divide d p q z) among = λ xs long.
       let α = assigned xs in (
         λ is_zero. steps_where α (Eq q) (call_of a) (term.Fail 1) _ _ (first_of_two _ _ among)
             is_zero (ground-call_of a xs long) (sym (ground-Fail α 1)),
@@ -166,7 +176,7 @@ module _ (rules : List Rule) where
             (map-append (value α) (variables_of a) (divided d p q ∷ []) ∙
             (λ i. variables_alone a xs long i ++ value-divided α d p q i ∷ [])))),
       )
-  rules_do entry a (Call f ps r) among = λ xs long.
+  rules_do integers entry a (Call f ps r) among = λ xs long.
       let α = assigned xs in
       let inner = term.Call (symbol (entry f)) ps in
       steps_always α (call_of a) (term.Frame (symbol r.symbol) (take r.width (variables_of a))
@@ -175,27 +185,32 @@ module _ (rules : List Rule) where
       ∙ (λ i. stack.Frame r.symbol ((sym (take-map (value α) r.width (variables_of a)) ∙
       ap (take r.width) (variables_alone a xs long)) i)
       (ground-Call α (symbol (entry f)) ps i))))
-  rules_do entry a (Resume z) among = λ xs long. (
+  rules_do integers entry a (Resume z) among = λ xs long. (
     λ x.
         let α = assigned (xs ++ x ∷ []) in
         let last : value α (variable a.width) ≡ x = value-variable α a.width ∙ ap α (sym long) ∙
         assigned-next xs x [] in
         steps_always α (term.Frame (symbol a.symbol) (variables_of a)
         (term.Return (variable a.width))) (jump z (variables_of a ++ variable a.width ∷ [])) _ _
-        (first_of_two _ _ among)
+        (among (over_value a z) (first_one (over_value a z)
+        (map (over_failure a) (failure_codes integers))))
         (sym (ground-Frame α (symbol a.symbol) (variables_of a) (term.Return (variable a.width))
         ∙ (λ i. stack.Frame a.symbol (variables_are a xs (x ∷ []) long i)
         ((ground-Return α (variable a.width) ∙ ap stack.Return last) i))))
         (sym (ground-jump α z (variables_of a ++ variable a.width ∷ []) (xs ++ x ∷ [])
         (map-append (value α) (variables_of a) (variable a.width ∷ []) ∙
         (λ i. variables_are a xs (x ∷ []) long i ++ last i ∷ [])))),
-    let α = assigned xs in
-        steps_always α (term.Frame (symbol a.symbol) (variables_of a) (term.Fail 1)) (term.Fail 1) _
-        _ (second_of_two _ _ among)
-        (sym (ground-Frame α (symbol a.symbol) (variables_of a) (term.Fail 1) ∙
-        (λ i. stack.Frame a.symbol (variables_alone a xs long i) (ground-Fail α 1 i))))
-        (sym (ground-Fail α 1)),
+    λ code there.
+        let α = assigned xs in
+        steps_always α (term.Frame (symbol a.symbol) (variables_of a) (term.Fail code))
+        (term.Fail code) _ _
+        (among (over_failure a code) (other_one (over_value a z)
+        (map (over_failure a) (failure_codes integers)) (over_failure a code)
+        (in_map (over_failure a) (failure_codes integers) code there)))
+        (sym (ground-Frame α (symbol a.symbol) (variables_of a) (term.Fail code) ∙
+        (λ i. stack.Frame a.symbol (variables_alone a xs long i) (ground-Fail α code i))))
+        (sym (ground-Fail α code)),
   )
-  rules_do entry a (Return p) among = λ xs long.
+  rules_do integers entry a (Return p) among = λ xs long.
       steps_always (assigned xs) (call_of a) (term.Return p) _ _ (only_one _ among)
       (ground-call_of a xs long) (sym (ground-Return (assigned xs) p))

@@ -1,5 +1,5 @@
 -- The rule set of whole code is well made.
-use Rattle.std.proofs.Common.{◌≡◌, ◌∙◌, ap, refl, Bool, true, false, ◌⊎◌, inl, inr, ℕ, zero, suc, ◌+◌, ◌-◌, ◌<◌, ◌≤◌, Option, Some, None, List, [], ◌∷◌, ◌++◌, length, take, drop, pos, negsuc, arith, length-append}
+use Rattle.std.proofs.Common.{◌≡◌, ◌∙◌, ap, subst, refl, Bool, true, false, ◌⊎◌, inl, inr, ℕ, zero, suc, ◌+◌, ◌-◌, ◌<◌, ◌≤◌, Option, Some, None, List, [], ◌∷◌, ◌++◌, length, map, take, drop, pos, negsuc, arith, length-append}
 use Rattle.std.specs.Prelude.{All, Contains, filter, nat_lt, nat_eq, slice_get}
 use Rattle.std.specs.List.{enumerate_from, list_all}
 use Rattle.std.specs.Option.{option_map}
@@ -8,6 +8,8 @@ use Rattle.std.proofs.lemmas.List.{length-drop, length-take-le}
 use Rattle.std.proofs.lemmas.List.Folds.{list_all-append}
 use Rattle.std.proofs.lemmas.Option.{slice_get-map}
 use Rattle.rx_plain.proofs.Lists.{all_pushed, all_taken}
+use Rattle.c_ast.specs.declared.integers.Integers.{Integers}
+use Rattle.c_ast.specs.declared.integers.Integers.TheVariants.{Unbounded, Bits32}
 use Rattle.rx_poly.specs.Constants.{number, variable}
 use Rattle.rx_poly.specs.Variables.{uses_below}
 use Rattle.rx_poly.specs.declared.body.Body.{Body}
@@ -16,7 +18,7 @@ use Rattle.rx_row.specs.Negation.{minus_one_more, negation, opposite}
 use Rattle.rx_row.specs.Variables.{rows_use_below}
 use Rattle.rx_row.specs.declared.row.Row.{Row}
 use Rattle.rx_row.specs.declared.row.Row.TheVariants.{Ge, Eq, Ne}
-use Rattle.rx_term.specs.Fitting.{is_alike, is_declared, term_fits}
+use Rattle.rx_term.specs.Fitting.{code_fits, is_alike, is_declared, term_fits}
 use Rattle.rx_term.specs.Variables.{polys_use_below, term_uses_below}
 use Rattle.rx_term.specs.WellMade.{IsMade, IsWellMade, OfPoint, OverReturn, OverFail, variables_from, width}
 use Rattle.rx_term.specs.declared.rule.Rule.{Rule}
@@ -25,21 +27,21 @@ use Rattle.rx_term.specs.declared.rule_set.SymInfo.{SymInfo}
 use Rattle.rx_term.specs.declared.term.Term.{Term}
 use Rattle.rx_term.specs.declared.term.Term.TheVariants as term
 use Rattle.rx_term.proofs.Equations.{arguments-Call, arguments-Frame, arguments-Fail, arguments-Return, below-Call, below-Fail, below-Frame, below-Return, fits-Call, fits-Fail, fits-Frame, fits-Return}
-use Rattle.rx_plain.proofs.Kept.{was_there}
+use Rattle.rx_plain.proofs.Kept.{first_one, first_or_other, other_one, was_there}
 use Rattle.rx_term.proofs.ShapeLaws.{declared_so}
 use Rattle.rx_term.proofs.VariableTests.{length-variables_from}
 use Rattle.rx_code.specs.Points.{with_element}
 use Rattle.rx_code.specs.Programs.{entry_of}
-use Rattle.rx_code.specs.Rules.{call_of, divided, info_at, jump, parts_of, rules_at, rules_of_action, rules_of_instruction, symbol, variables_of}
+use Rattle.rx_code.specs.Rules.{call_of, divided, failure_codes, info_at, jump, over_failure, over_value, parts_of, rules_at, rules_of_action, rules_of_instruction, symbol, variables_of}
 use Rattle.rx_code.specs.declared.action.Action.{Action}
-use Rattle.rx_code.specs.declared.action.Action.TheVariants.{Go, Set, Test, Divide, Call, Resume, Return}
+use Rattle.rx_code.specs.declared.action.Action.TheVariants.{Go, Set, Test, Exclude, Divide, Call, Resume, Return}
 use Rattle.rx_code.specs.declared.action.Instruction.{Instruction}
 use Rattle.rx_code.specs.declared.action.Division.{Division}
 use Rattle.rx_code.specs.declared.action.Division.TheVariants.{Quotient, Remainder}
 use Rattle.rx_code.specs.declared.code.Code.{Code}
 use Rattle.rx_code.specs.declared.point.Opening.{Opening}
 use Rattle.rx_code.specs.declared.point.Point.{Point}
-use Rattle.rx_code.proofs.Elements.{all_from, from_flat_map}
+use Rattle.rx_code.proofs.Elements.{all_from, from_flat_map, no_element}
 use Rattle.rx_code.proofs.Whole.{FitsCode, IsOpened, IsTarget, IsWhole, Suits, is_at, is_resume}
 use Rattle.std.proofs.lemmas.List.Elements.{All-cons, All-nil, All-contains}
 
@@ -92,8 +94,31 @@ alike_itself : (b : Bool) → is_alike b b ≡ true
 alike_itself true = refl
 alike_itself false = refl
 
-module _ (c : Code) where
-  pub symbol_at : (k : ℕ) → slice_get (parts_of c).symbols k ≡
+-- a code of a failure fits as many failures as there are codes
+pub code_there : (integers : Integers) (code : ℕ) → Contains (failure_codes integers) code →
+    code_fits (length (failure_codes integers)) code ≡ true
+code_there Unbounded code there =
+    elim (first_or_other 1 [] code there) [
+      | inl same ↦ subst (λ k. code_fits 1 k ≡ true) same refl
+      | inr other ↦
+          absurd (no_element code other)
+    ]
+code_there Bits32 code there =
+    elim (first_or_other 1 (2 ∷ []) code there) [
+      | inl same ↦ subst (λ k. code_fits 2 k ≡ true) same refl
+      | inr other ↦ elim (first_or_other 2 [] code other) [
+        | inl same ↦ subst (λ k. code_fits 2 k ≡ true) same refl
+        | inr none ↦ absurd (no_element code none)
+      ]
+    ]
+
+-- 1 is the code of a failure
+pub one_there : (integers : Integers) → Contains (failure_codes integers) 1
+one_there Unbounded = first_one 1 []
+one_there Bits32 = first_one 1 (2 ∷ [])
+
+module _ (integers : Integers) (c : Code) where
+  pub symbol_at : (k : ℕ) → slice_get (parts_of integers c).symbols k ≡
       option_map (λ (o : Opening). info_at c (k, o)) (slice_get c.opened k)
   symbol_at k =
       slice_get-map (info_at c) (enumerate_from 0 c.opened) k
@@ -108,7 +133,7 @@ module _ (c : Code) where
 
   -- an opened symbol is declared so
   pub declared : (k width : ℕ) (frame : Bool) → IsOpened c k width frame →
-      is_declared (parts_of c).symbols (symbol k) frame width ≡ true
+      is_declared (parts_of integers c).symbols (symbol k) frame width ≡ true
   declared k count frame opened =
       ap (λ (o : Option SymInfo). declared_so o frame count)
       (symbol_at k ∙ ap (option_map (λ (o : Opening). info_at c (k, o))) opened)
@@ -118,7 +143,7 @@ module _ (c : Code) where
   -- ---- sides
 
   abbrev set : RuleParts
-  set = parts_of c
+  set = parts_of integers c
 
   length-variables : (a : Point) → length (variables_of a) ≡ a.width
   length-variables a = length-variables_from 0 a.width
@@ -209,13 +234,18 @@ module _ (c : Code) where
       length-variables a in
       e ∙ f ∙ omega (arith, g, h)
 
-  width-failure : (a : Point) → width (term.Frame (symbol a.symbol) (variables_of a) (term.Fail 1))
-      ≡ a.width
-  width-failure a =
-      let e = ap length (arguments-Frame (symbol a.symbol) (variables_of a) (term.Fail 1)) in
-      let f = ap (λ qs. length (variables_of a ++ qs)) (arguments-Fail 1) in
+  width-failure : (a : Point) (code : ℕ) →
+      width (term.Frame (symbol a.symbol) (variables_of a) (term.Fail code)) ≡ a.width
+  width-failure a code =
+      let e = ap length (arguments-Frame (symbol a.symbol) (variables_of a) (term.Fail code)) in
+      let f = ap (λ qs. length (variables_of a ++ qs)) (arguments-Fail code) in
       let g = length-append (variables_of a) [] in let h = length-variables a in
       e ∙ f ∙ omega (arith, g, h)
+
+  -- a code of a failure fits
+  fits-code : (code : ℕ) → Contains (failure_codes integers) code →
+      term_fits set (term.Fail code) ≡ true
+  fits-code code there = fits-Fail set code ∙ code_there integers code there
 
   fits-frame : (a : Point) (inner : Term) → IsOpened c a.symbol a.width true → term_fits set inner ≡
       true → term_fits set (term.Frame (symbol a.symbol) (variables_of a) inner) ≡ true
@@ -226,13 +256,34 @@ module _ (c : Code) where
       (ap (is_declared set.symbols (symbol a.symbol) true) (length-variables a) ∙
       declared a.symbol a.width true opened) fits
 
-  instruction_made : (d : Instruction) → FitsCode c d → All (IsMade set)
-      (rules_of_instruction (entry_of c.entries) d)
+  -- the rules that hand failures on
+  failures_made : (a : Point) → IsOpened c a.symbol a.width true → a.width ≤ 128 →
+      (codes : List ℕ) → ((code : ℕ) → Contains codes code → Contains (failure_codes integers) code)
+      → All (IsMade set) (map (over_failure a) codes)
+  failures_made a opened narrow [] are = All-nil (IsMade set)
+  failures_made a opened narrow (code ∷ codes) are =
+      let fits = fits-code code (are code (first_one code codes)) in
+      All-cons (IsMade set) (over_failure a code) (map (over_failure a) codes)
+      (record {
+        form = OverFail (symbol a.symbol) a.width code;
+        few = let e = width-failure a code in omega (arith, e, narrow);
+        left_fits = fits-frame a (term.Fail code) opened fits;
+        right_fits = fits;
+        right_variables =
+            below-Fail (width (term.Frame (symbol a.symbol) (variables_of a) (term.Fail code)))
+            code;
+        row_variables = refl;
+      })
+      (failures_made a opened narrow codes
+      (λ k there. are k (other_one code codes k there)))
+
+  instruction_made : (d : Instruction) → FitsCode integers c d → All (IsMade set)
+      (rules_of_instruction integers (entry_of c.entries) d)
   instruction_made d fits = go d.at d.action fits.opened fits.narrow fits.suits
     where
       go : (a : Point) (x : Action) → IsOpened c a.symbol a.width (is_resume x) → a.width ≤ 128 →
-          Suits c a.width x
-          → All (IsMade set) (rules_of_action (entry_of c.entries) a x)
+          Suits integers c a.width x
+          → All (IsMade set) (rules_of_action integers (entry_of c.entries) a x)
       go a (Go z) opened narrow target =
           one_made _ (jumps a opened narrow [] refl z (variables_of a) a.width
           (let e = length-variables a in omega (arith, e)) target (below_itself a))
@@ -259,14 +310,22 @@ module _ (c : Code) where
           to_y (below_itself a))
           (jumps a opened narrow (negation row ∷ []) (below-negation a.width row row_below) w
           (variables_of a) a.width enough to_w (below_itself a))
+      go a (Exclude row z) opened narrow (to_z, (row_below, code)) =
+          let enough : a.width ≤ length (variables_of a) = let e = length-variables a in
+          omega (arith, e) in
+          two_made _ _
+          (made_at a opened narrow (term.Fail 2) (row ∷ []) (fits-code 2 code)
+          (below-Fail a.width 2) row_below)
+          (jumps a opened narrow (negation row ∷ []) (below-negation a.width row row_below) z
+          (variables_of a) a.width enough to_z (below_itself a))
       go a (Divide d p q z) opened narrow (target, (p_below, q_below)) =
           let ps = variables_of a ++ divided d p q ∷ [] in
           let q_row = and_from (uses_below a.width q) true q_below refl in
           let long = length-append (variables_of a) (divided d p q ∷ []) in
           let enough : suc a.width ≤ length ps = let e = length-variables a in
           omega (arith, e, long) in
-          two_made _ _ (made_at a opened narrow (term.Fail 1) (Eq q ∷ []) (fits-Fail set 1)
-          (below-Fail a.width 1) q_row)
+          two_made _ _ (made_at a opened narrow (term.Fail 1) (Eq q ∷ [])
+          (fits-code 1 (one_there integers)) (below-Fail a.width 1) q_row)
           (jumps a opened narrow (Ne q ∷ []) q_row z ps (suc a.width) enough target
           (all_pushed (uses_below a.width) (variables_of a) (divided d p q) (below_itself a)
           (below-divided a.width d p q p_below q_below)))
@@ -294,7 +353,7 @@ module _ (c : Code) where
           let long = length-append (variables_of a) (variable a.width ∷ []) in
           let enough : suc a.width ≤ length ps = let e = length-variables a in
           omega (arith, e, long) in
-          two_made _ _
+          All-cons (IsMade set) (over_value a z) (map (over_failure a) (failure_codes integers))
           (record {
             form = OverReturn (symbol a.symbol) a.width;
             few = let e = width-value a in omega (arith, e, narrow);
@@ -307,27 +366,20 @@ module _ (c : Code) where
                 (below-variable (a.width + 1) a.width (omega arith)));
             row_variables = refl;
           })
-          (record {
-            form = OverFail (symbol a.symbol) a.width 1;
-            few = let e = width-failure a in omega (arith, e, narrow);
-            left_fits = fits-frame a (term.Fail 1) opened (fits-Fail set 1);
-            right_fits = fits-Fail set 1;
-            right_variables =
-                below-Fail (width (term.Frame (symbol a.symbol) (variables_of a) (term.Fail 1))) 1;
-            row_variables = refl;
-          })
+          (failures_made a opened narrow (failure_codes integers) (λ code there. there))
       go a (Return p) opened narrow p_below =
           one_made _ (made_at a opened narrow (term.Return p) [] (fits-Return set p)
           (below-Return a.width p ∙ p_below) refl)
 
-  pub whole_made : IsWhole c → IsWellMade (parts_of c)
+  pub whole_made : IsWhole integers c → IsWellMade (parts_of integers c)
   whole_made whole = all_from (IsMade set) set.rules (λ r there.
-      let of_symbol = from_flat_map (λ (o : ℕ × Opening). rules_at c o.0)
+      let of_symbol = from_flat_map (λ (o : ℕ × Opening). rules_at integers c o.0)
       (enumerate_from 0 c.opened) r there in
-      let of_instruction = from_flat_map (rules_of_instruction (entry_of c.entries))
+      let of_instruction = from_flat_map (rules_of_instruction integers (entry_of c.entries))
       (filter (is_at of_symbol.from.0) c.instructions) r of_symbol.inside in
       let among : Contains c.instructions of_instruction.from =
       was_there (is_at of_symbol.from.0) c.instructions of_instruction.from of_instruction.among in
-      All-contains (IsMade set) (rules_of_instruction (entry_of c.entries) of_instruction.from) r
+      All-contains (IsMade set) (rules_of_instruction integers (entry_of c.entries)
+      of_instruction.from) r
       (instruction_made of_instruction.from (whole.fits of_instruction.from among))
       of_instruction.inside)

@@ -1,6 +1,7 @@
 -- Each symbol that is opened for statements has one instruction.
 use Rattle.std.proofs.Common.{◌≡◌, ap, sym, subst, refl, true, ℕ, ◌+◌, Option, Some, None, List, [], ◌∷◌, map, pos, arith}
 use Rattle.rx_poly.specs.declared.body.Body.{Body}
+use Rattle.c_ast.specs.declared.integers.Integers.{Integers}
 use Rattle.c_ast.specs.declared.expr.Expr.{Expr}
 use Rattle.c_ast.specs.declared.expr.Expr.TheVariants.{Lit}
 use Rattle.c_ast.specs.declared.stmt.Stmt.{Stmt}
@@ -29,10 +30,6 @@ module _ (x : ℕ) where
   value_counted y action a next is =
       let v = y.value a next in open_closed x next a v.at v.code (does v.at (action v.value))
       (is.value a next) (does_closed x (after next v.code) v.at (action v.value))
-
-  zero_counted : (value : Option Expr) → CountsExpr x (value_or_zero value)
-  zero_counted None = expr_counted x (Lit (pos 0))
-  zero_counted (Some e) = expr_counted x e
 
   -- two opened points, and three pieces
   two_opened : (next : ℕ) (a : Point) (width : ℕ) (c d f : Code) → Closed x (next + 2) a c →
@@ -169,83 +166,101 @@ module _ (x : ℕ) where
       (in_scope (λ at next. record { form = does at.at (Go (z at)); within = true }))
   go_counted z = record { code = λ at next. does_closed x next at.at (Go (z at)) }
 
-  mutual
-    stmt_tree_counted : (t : Stmt) → StmtTree t → CountsStmt (stmt_code t)
-    stmt_tree_counted t tree.IsEmpty = subst CountsStmt (sym code-Empty) (go_counted (λ at. at.to))
-    stmt_tree_counted t (tree.Declared slot value) =
-        subst CountsStmt (sym (code-Declare slot value))
-        (record {
-          code = λ at next. value_counted (value_or_zero value) (λ p. Set slot p at.to)
-              at.at next (zero_counted value);
-        })
-    stmt_tree_counted t (tree.Assigned slot e) =
-        subst CountsStmt (sym (code-Assign slot e))
-        (record {
-          code = λ at next. value_counted (expr_code e) (λ p. Set slot p at.to) at.at next
-              (expr_counted x e);
-        })
-    stmt_tree_counted t (tree.IfAlone e u inner) =
-        subst CountsStmt (sym (code-If e u None))
-        (record {
-          code = branches_counted (expr_code e) (stmt_code u) None (expr_counted x e)
-              (stmt_tree_counted u inner) none_picked;
-        })
-    stmt_tree_counted t (tree.IfElse e u v inner other) =
-        subst CountsStmt (sym (code-If e u (Some v)))
-        (record {
-          code = branches_counted (expr_code e) (stmt_code u) (Some (stmt_code v))
-              (expr_counted x e) (stmt_tree_counted u inner)
-              (this_picked (stmt_code v) (stmt_tree_counted v other));
-        })
-    stmt_tree_counted t (tree.WhileLoop e u inner) =
-        subst CountsStmt (sym (code-While e u))
-        (record {
-          code = while_counted (expr_code e) (stmt_code u) (expr_counted x e)
-              (stmt_tree_counted u inner);
-        })
-    stmt_tree_counted t (tree.DoLoop u e inner) =
-        subst CountsStmt (sym (code-DoWhile u e))
-        (record {
-          code = do_counted (stmt_code u) (expr_code e) (stmt_tree_counted u inner)
-              (expr_counted x e);
-        })
-    stmt_tree_counted t (tree.ForLoop first test u begun inner) =
-        let e = test_or_one test in
-        subst CountsStmt (sym (code-For first test None u)) (record {
-          code =
-              for_counted (map stmt_code first) (expr_code e) None (stmt_code u)
-              (stmt_trees_counted first begun)
-              (loop_counted (expr_code e) None (stmt_code u) (expr_counted x e)
-              (stmt_tree_counted u inner) none_picked);
-        })
-    stmt_tree_counted t (tree.ForChange first test v u begun changed inner) =
-        let e = test_or_one test in
-        subst CountsStmt (sym (code-For first test (Some v) u)) (record {
-          code =
-              for_counted (map stmt_code first) (expr_code e) (Some (stmt_code v)) (stmt_code u)
-              (stmt_trees_counted first begun)
-              (loop_counted (expr_code e) (Some (stmt_code v)) (stmt_code u) (expr_counted x e)
-              (stmt_tree_counted u inner)
-              (this_picked (stmt_code v) (stmt_tree_counted v changed)));
-        })
-    stmt_tree_counted t (tree.Broken token) =
-        subst CountsStmt (sym (code-Break token)) (go_counted (λ at. at.break_to))
-    stmt_tree_counted t (tree.Continued token) =
-        subst CountsStmt (sym (code-Continue token)) (go_counted (λ at. at.continue_to))
-    stmt_tree_counted t (tree.Returned e) =
-        subst CountsStmt (sym (code-Return e))
-        (record {
-          code = λ at next. value_counted (expr_code e) Return at.at next (expr_counted x e);
-        })
-    stmt_tree_counted t (tree.InBlock ts inner) =
-        subst CountsStmt (sym (code-Block ts)) (record { code = stmt_trees_counted ts inner })
+  module _ (integers : Integers) where
+    zero_counted : (value : Option Expr) → CountsExpr x (value_or_zero integers value)
+    zero_counted None = expr_counted x integers (Lit (pos 0))
+    zero_counted (Some e) = expr_counted x integers e
 
-    stmt_trees_counted : (ts : List Stmt) → StmtTrees ts → CountsList (map stmt_code ts)
-    stmt_trees_counted ts tree.NoStmt = λ at next. does_closed x next at.at (Go at.to)
-    stmt_trees_counted ts (tree.MoreStmts t us first rest) =
-        list_step (stmt_code t) (map stmt_code us) (stmt_tree_counted t first)
-        (stmt_trees_counted us rest)
+    mutual
+      stmt_tree_counted : (t : Stmt) → StmtTree t → CountsStmt (stmt_code integers t)
+      stmt_tree_counted t tree.IsEmpty =
+          subst CountsStmt (sym (code-Empty integers)) (go_counted (λ at. at.to))
+      stmt_tree_counted t (tree.Declared slot value) =
+          subst CountsStmt (sym (code-Declare integers slot value))
+          (record {
+            code = λ at next. value_counted (value_or_zero integers value) (λ p. Set slot p at.to)
+                at.at next (zero_counted value);
+          })
+      stmt_tree_counted t (tree.Assigned slot e) =
+          subst CountsStmt (sym (code-Assign integers slot e))
+          (record {
+            code = λ at next. value_counted (expr_code integers e)
+                (λ p. Set slot p at.to) at.at next
+                (expr_counted x integers e);
+          })
+      stmt_tree_counted t (tree.IfAlone e u inner) =
+          subst CountsStmt (sym (code-If integers e u None))
+          (record {
+            code = branches_counted (expr_code integers e) (stmt_code integers u) None
+                (expr_counted x integers e)
+                (stmt_tree_counted u inner) none_picked;
+          })
+      stmt_tree_counted t (tree.IfElse e u v inner other) =
+          subst CountsStmt (sym (code-If integers e u (Some v)))
+          (record {
+            code = branches_counted (expr_code integers e) (stmt_code integers u)
+                (Some (stmt_code integers v))
+                (expr_counted x integers e) (stmt_tree_counted u inner)
+                (this_picked (stmt_code integers v) (stmt_tree_counted v other));
+          })
+      stmt_tree_counted t (tree.WhileLoop e u inner) =
+          subst CountsStmt (sym (code-While integers e u))
+          (record {
+            code = while_counted (expr_code integers e) (stmt_code integers u)
+                (expr_counted x integers e)
+                (stmt_tree_counted u inner);
+          })
+      stmt_tree_counted t (tree.DoLoop u e inner) =
+          subst CountsStmt (sym (code-DoWhile integers u e))
+          (record {
+            code = do_counted (stmt_code integers u) (expr_code integers e)
+                (stmt_tree_counted u inner)
+                (expr_counted x integers e);
+          })
+      stmt_tree_counted t (tree.ForLoop first test u begun inner) =
+          let e = test_or_one test in
+          subst CountsStmt (sym (code-For integers first test None u)) (record {
+            code =
+                for_counted (map (stmt_code integers) first) (expr_code integers e) None
+                (stmt_code integers u)
+                (stmt_trees_counted first begun)
+                (loop_counted (expr_code integers e) None (stmt_code integers u)
+                (expr_counted x integers e)
+                (stmt_tree_counted u inner) none_picked);
+          })
+      stmt_tree_counted t (tree.ForChange first test v u begun changed inner) =
+          let e = test_or_one test in
+          subst CountsStmt (sym (code-For integers first test (Some v) u)) (record {
+            code =
+                for_counted (map (stmt_code integers) first) (expr_code integers e)
+                (Some (stmt_code integers v)) (stmt_code integers u)
+                (stmt_trees_counted first begun)
+                (loop_counted (expr_code integers e) (Some (stmt_code integers v))
+                (stmt_code integers u) (expr_counted x integers e)
+                (stmt_tree_counted u inner)
+                (this_picked (stmt_code integers v) (stmt_tree_counted v changed)));
+          })
+      stmt_tree_counted t (tree.Broken token) =
+          subst CountsStmt (sym (code-Break integers token)) (go_counted (λ at. at.break_to))
+      stmt_tree_counted t (tree.Continued token) =
+          subst CountsStmt (sym (code-Continue integers token)) (go_counted (λ at. at.continue_to))
+      stmt_tree_counted t (tree.Returned e) =
+          subst CountsStmt (sym (code-Return integers e))
+          (record {
+            code = λ at next. value_counted (expr_code integers e) Return at.at next
+                (expr_counted x integers e);
+          })
+      stmt_tree_counted t (tree.InBlock ts inner) =
+          subst CountsStmt (sym (code-Block integers ts))
+          (record { code = stmt_trees_counted ts inner })
 
-  -- the code of each list of statements is so
-  pub list_is_counted : (ts : List Stmt) → CountsList (map stmt_code ts)
-  list_is_counted ts = stmt_trees_counted ts (tree.stmt_trees ts)
+      stmt_trees_counted : (ts : List Stmt) → StmtTrees ts →
+          CountsList (map (stmt_code integers) ts)
+      stmt_trees_counted ts tree.NoStmt = λ at next. does_closed x next at.at (Go at.to)
+      stmt_trees_counted ts (tree.MoreStmts t us first rest) =
+          list_step (stmt_code integers t) (map (stmt_code integers) us) (stmt_tree_counted t first)
+          (stmt_trees_counted us rest)
+
+    -- the code of each list of statements is so
+    pub list_is_counted : (ts : List Stmt) → CountsList (map (stmt_code integers) ts)
+    list_is_counted ts = stmt_trees_counted ts (tree.stmt_trees ts)

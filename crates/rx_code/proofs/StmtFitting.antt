@@ -5,6 +5,7 @@ use Rattle.std.proofs.lemmas.Bool.{and_parts}
 use Rattle.rx_plain.specs.Formed.{Formed, pure}
 use Rattle.rx_poly.specs.Variables.{uses_below}
 use Rattle.rx_poly.specs.declared.body.Body.{Body}
+use Rattle.c_ast.specs.declared.integers.Integers.{Integers}
 use Rattle.c_ast.specs.declared.expr.Expr.{Expr}
 use Rattle.c_ast.specs.declared.expr.Expr.TheVariants.{Lit}
 use Rattle.c_ast.specs.declared.stmt.Stmt.{Stmt}
@@ -31,12 +32,13 @@ use Rattle.rx_code.proofs.Whole.{IsOpened, Suits, is_resume}
 any_action : Actions
 any_action a x = Unit {0}
 
-module _ (c : Code) (kept : (d : Instruction) → Contains c.instructions d → instruction_within d ≡
-    true)
+module _ (integers : Integers) (c : Code)
+    (kept : (d : Instruction) → Contains c.instructions d → instruction_within d ≡ true)
     (callable : ℕ → ℕ → Type 0) (entries : (f k : ℕ) → callable f k →
     IsOpened c (entry_of c.entries f) k false) where
-  slots_are : (n : ℕ) (t : Stmt) (k : ℕ) → IsStmt callable n t k → (stmt_code t).slots_after n ≡ k
-  slots_are n t k is = (stmt_coded any_action callable n t k is).slots
+  slots_are : (n : ℕ) (t : Stmt) (k : ℕ) → IsStmt callable n t k →
+      (stmt_code integers t).slots_after n ≡ k
+  slots_are n t k is = (stmt_coded integers any_action callable n t k is).slots
 
   -- the places of a statement with n slots before it and k after it
   pub record PlacesIn (n k : ℕ) (at : Places) : Type 0 where
@@ -53,34 +55,35 @@ module _ (c : Code) (kept : (d : Instruction) → Contains c.instructions d → 
   abbrev pub FitsFrom : ℕ → ℕ → (Places → ℕ → Formed Code) → Type 0
   FitsFrom n k code =
       (at : Places) (next : ℕ) → PlacesIn n k at → (code at next).within ≡ true →
-      StandsIn c next (code at next).form → Fits c (code at next).form
+      StandsIn c next (code at next).form → Fits c integers (code at next).form
 
   pub record FitsStmt (n k : ℕ) (x : Compiled) : Type 0 where
     pub slots : x.slots_after n ≡ k
     pub code : FitsFrom n k x.code
 
   expr_is : (n : ℕ) (e : Expr) → IsExpr callable n e →
-      FitsExpr c kept callable entries n (expr_code e)
-  expr_is n e is = expr_fits c kept callable entries n e is
+      FitsExpr c integers kept callable entries n (expr_code integers e)
+  expr_is n e is = expr_fits c integers kept callable entries n e is
 
   -- a value, and what is done with it
   value_fits : (n : ℕ) (x : Asked) (action : Body → Action) (a : Point) (next : ℕ) →
-      FitsExpr c kept callable entries n x → n ≤ a.width → PointIn c a →
+      FitsExpr c integers kept callable entries n x → n ≤ a.width → PointIn c a →
       ((p : Body) → is_resume (action p) ≡ false)
-      → ((m : ℕ) (p : Body) → a.width ≤ m → uses_below m p ≡ true → Suits c m (action p))
+      → ((m : ℕ) (p : Body) → a.width ≤ m → uses_below m p ≡ true → Suits integers c m (action p))
       → (with_value x action a next).within ≡ true →
       StandsIn c next (with_value x action a next).form →
-      Fits c (with_value x action a next).form
+      Fits c integers (with_value x action a next).form
   value_fits n x action a next is enough at_a no_frame suits within stands =
       let v = x.value a next in
       let f = is.value a next enough at_a within
       (stands_left c next v.code (does v.at (action v.value)) stands) in
-      fits_append c v.code (does v.at (action v.value)) f.fits
-      (instruction_fits c kept (after next v.code) v.at (action v.value) f.there (no_frame v.value)
+      fits_append c integers v.code (does v.at (action v.value)) f.fits
+      (instruction_fits c integers kept (after next v.code) v.at (action v.value) f.there
+      (no_frame v.value)
       (stands_right c next v.code (does v.at (action v.value)) stands)
       (suits v.at.width v.value f.wider f.below))
 
-  declares_fit : (n : ℕ) (x : Asked) → FitsExpr c kept callable entries n x →
+  declares_fit : (n : ℕ) (x : Asked) → FitsExpr c integers kept callable entries n x →
       FitsFrom n (suc n) (λ at next. with_value x (λ p. Set n p at.to) at.at next)
   declares_fit n x is at next places within stands =
       let same = places.same in
@@ -96,7 +99,7 @@ module _ (c : Code) (kept : (d : Instruction) → Contains c.instructions d → 
       )) within
       stands
 
-  assigns_fit : (n k : ℕ) (x : Asked) → k < n → FitsExpr c kept callable entries n x →
+  assigns_fit : (n k : ℕ) (x : Asked) → k < n → FitsExpr c integers kept callable entries n x →
       FitsFrom n n (λ at next. with_value x (λ p. Set k p at.to) at.at next)
   assigns_fit n k x below_n is at next places within stands =
       let same = places.same in
@@ -112,7 +115,7 @@ module _ (c : Code) (kept : (d : Instruction) → Contains c.instructions d → 
       )) within
       stands
 
-  returns_fit : (n : ℕ) (x : Asked) → FitsExpr c kept callable entries n x →
+  returns_fit : (n : ℕ) (x : Asked) → FitsExpr c integers kept callable entries n x →
       FitsFrom n n (λ at next. with_value x Return at.at next)
   returns_fit n x is at next places within stands =
       let same = places.same in
@@ -125,7 +128,7 @@ module _ (c : Code) (kept : (d : Instruction) → Contains c.instructions d → 
   goes_fit n z there fits at next places within stands =
       let same = places.same in
       let enough = fits at places in
-      instruction_fits c kept next at.at (Go (z at)) places.here refl stands
+      instruction_fits c integers kept next at.at (Go (z at)) places.here refl stands
       (target c at.at.width (z at) (there at places) (omega (arith, same, enough)))
 
   -- ---- branches and loops
@@ -146,7 +149,8 @@ module _ (c : Code) (kept : (d : Instruction) → Contains c.instructions d → 
         stands.instructions;
   }
 
-  if_fits : (n k : ℕ) (e : Asked) (x : Compiled) → n ≤ k → FitsExpr c kept callable entries n e →
+  if_fits : (n k : ℕ) (e : Asked) (x : Compiled) → n ≤ k →
+      FitsExpr c integers kept callable entries n e →
       FitsStmt n k x → FitsFrom n n (if_code e x)
   if_fits n k e x stay test inner at next places within stands =
       let same = places.same in
@@ -160,7 +164,7 @@ module _ (c : Code) (kept : (d : Instruction) → Contains c.instructions d → 
       let os = a_point at.at.width ∷ [] in
       let at_y = first_point c next at.at.width [] (append_code p.form q.form) stands one.0 in
       let rest = stands_right c next (opens os) (append_code p.form q.form) stands in
-      fits_append c p.form q.form
+      fits_append c integers p.form q.form
       (test.condition at.at y at.to (next + 1) (omega (arith, same)) places.here at_y places.to
       (omega arith) (omega (arith, same, fits)) two.0
       (stands_left c (next + 1) p.form q.form rest))
@@ -179,7 +183,7 @@ module _ (c : Code) (kept : (d : Instruction) → Contains c.instructions d → 
       two.1 (stands_right c (next + 1) p.form q.form rest))
 
   if_else_fits : (n k l : ℕ) (e : Asked) (x z : Compiled) → n ≤ k → n ≤ l →
-      FitsExpr c kept callable entries n e → FitsStmt n k x → FitsStmt n l z →
+      FitsExpr c integers kept callable entries n e → FitsStmt n k x → FitsStmt n l z →
       FitsFrom n n (if_else_code e x z)
   if_else_fits n k l e x z stay also test inner other at next places within stands =
       let same = places.same in
@@ -203,10 +207,10 @@ module _ (c : Code) (kept : (d : Instruction) → Contains c.instructions d → 
       let at_w = later_point c next 1 at.at.width os all stands refl two.0 in
       let rest = stands_right c next (opens os) all stands in
       let branches = stands_right c (next + 2) p.form (append_code q.form r.form) rest in
-      fits_append c p.form (append_code q.form r.form)
+      fits_append c integers p.form (append_code q.form r.form)
       (test.condition at.at y w (next + 2) (omega (arith, same)) places.here at_y at_w (omega arith)
       (omega arith) three.0 (stands_left c (next + 2) p.form (append_code q.form r.form) rest))
-      (fits_append c q.form r.form
+      (fits_append c integers q.form r.form
       (inner.code yes (after (next + 2) p.form)
       (record {
         same = same;
@@ -234,7 +238,8 @@ module _ (c : Code) (kept : (d : Instruction) → Contains c.instructions d → 
       })
       four.1 (stands_right c (after (next + 2) p.form) q.form r.form branches)))
 
-  while_fits : (n k : ℕ) (e : Asked) (x : Compiled) → n ≤ k → FitsExpr c kept callable entries n e →
+  while_fits : (n k : ℕ) (e : Asked) (x : Compiled) → n ≤ k →
+      FitsExpr c integers kept callable entries n e →
       FitsStmt n k x → FitsFrom n n (while_code e x)
   while_fits n k e x stay test inner at next places within stands =
       let same = places.same in
@@ -250,7 +255,7 @@ module _ (c : Code) (kept : (d : Instruction) → Contains c.instructions d → 
       (append_code (opens os) (append_code p.form q.form)) stands in
       let at_y = first_point c next at.at.width [] (append_code p.form q.form) opened one.0 in
       let rest = stands_right c next (opens os) (append_code p.form q.form) opened in
-      fits_append c p.form q.form
+      fits_append c integers p.form q.form
       (test.condition at.at y at.to (next + 1) (omega (arith, same)) places.here at_y places.to
       (omega arith) (omega (arith, same, fits)) two.0
       (stands_left c (next + 1) p.form q.form rest))
@@ -270,7 +275,7 @@ module _ (c : Code) (kept : (d : Instruction) → Contains c.instructions d → 
       two.1 (stands_right c (next + 1) p.form q.form rest))
 
   do_fits : (n k : ℕ) (x : Compiled) (e : Asked) → n ≤ k → FitsStmt n k x →
-      FitsExpr c kept callable entries n e → FitsFrom n n (do_code x e)
+      FitsExpr c integers kept callable entries n e → FitsFrom n n (do_code x e)
   do_fits n k x e stay inner test at next places within stands =
       let same = places.same in
       let fits = places.to_fits in
@@ -285,7 +290,7 @@ module _ (c : Code) (kept : (d : Instruction) → Contains c.instructions d → 
       (append_code (opens os) (append_code p.form q.form)) stands in
       let at_z = first_point c next at.at.width [] (append_code p.form q.form) opened one.0 in
       let rest = stands_right c next (opens os) (append_code p.form q.form) opened in
-      fits_append c p.form q.form
+      fits_append c integers p.form q.form
       (inner.code body (next + 1) (record {
         same = same;
         here = places.here;
@@ -316,10 +321,11 @@ module _ (c : Code) (kept : (d : Instruction) → Contains c.instructions d → 
   abbrev pub FitsTurn : ℕ → ℕ → (Point → Places → ℕ → Formed Code) → Type 0
   FitsTurn n i code =
       (h : Point) (at : Places) (next : ℕ) → TurnIn n i h at → (code h at next).within ≡ true →
-      StandsIn c next (code h at next).form → Fits c (code h at next).form
+      StandsIn c next (code h at next).form → Fits c integers (code h at next).form
 
   turn_fits : (n i k : ℕ) (e : Asked) (x : Compiled) → i ≤ k →
-      FitsExpr c kept callable entries i e → FitsStmt i k x → FitsTurn n i (loop_code e None x)
+      FitsExpr c integers kept callable entries i e → FitsStmt i k x →
+      FitsTurn n i (loop_code e None x)
   turn_fits n i k e x stay test inner h at next places within stands =
       let same = places.same in
       let fits = places.to_fits in
@@ -334,7 +340,7 @@ module _ (c : Code) (kept : (d : Instruction) → Contains c.instructions d → 
       (append_code (opens os) (append_code p.form q.form)) stands in
       let at_y = first_point c next h.width [] (append_code p.form q.form) opened one.0 in
       let rest = stands_right c next (opens os) (append_code p.form q.form) opened in
-      fits_append c p.form q.form
+      fits_append c integers p.form q.form
       (test.condition h y at.to (next + 1) (omega (arith, same)) places.here at_y places.to
       (omega arith) (omega (arith, same, fits)) two.0
       (stands_left c (next + 1) p.form q.form rest))
@@ -354,7 +360,7 @@ module _ (c : Code) (kept : (d : Instruction) → Contains c.instructions d → 
       two.1 (stands_right c (next + 1) p.form q.form rest))
 
   change_turn_fits : (n i k l : ℕ) (e : Asked) (w x : Compiled) → i ≤ k → i ≤ l →
-      FitsExpr c kept callable entries i e → FitsStmt i l w → FitsStmt i k x →
+      FitsExpr c integers kept callable entries i e → FitsStmt i l w → FitsStmt i k x →
       FitsTurn n i (loop_code e (Some w) x)
   change_turn_fits n i k l e w x stay also test change inner h at next places within stands =
       let same = places.same in
@@ -378,11 +384,11 @@ module _ (c : Code) (kept : (d : Instruction) → Contains c.instructions d → 
       let at_z = later_point c next 1 h.width os all opened refl two.0 in
       let rest = stands_right c next (opens os) all opened in
       let parts = stands_right c (next + 2) p.form (append_code q.form r.form) rest in
-      fits_append c p.form (append_code q.form r.form)
+      fits_append c integers p.form (append_code q.form r.form)
       (test.condition h y at.to (next + 2) (omega (arith, same)) places.here at_y places.to
       (omega arith) (omega (arith, same, fits)) three.0
       (stands_left c (next + 2) p.form (append_code q.form r.form) rest))
-      (fits_append c q.form r.form
+      (fits_append c integers q.form r.form
       (inner.code body (after (next + 2) p.form)
       (record {
         same = same;
@@ -433,7 +439,7 @@ module _ (c : Code) (kept : (d : Instruction) → Contains c.instructions d → 
       let rest = stands_right c next (opens os) (append_code p.form q.form) stands in
       let b = places.break_fits in
       let j = places.continue_fits in
-      fits_append c p.form q.form
+      fits_append c integers p.form q.form
       (first.code before (next + 1) (record {
         same = same;
         here = places.here;
@@ -490,7 +496,7 @@ module _ (c : Code) (kept : (d : Instruction) → Contains c.instructions d → 
       let os = a_point m ∷ [] in
       let at_h = first_point c next m [] (append_code p.form q.form) stands one.0 in
       let rest = stands_right c next (opens os) (append_code p.form q.form) stands in
-      fits_append c p.form q.form
+      fits_append c integers p.form q.form
       (list first (next + 1) (record {
         same = places.same;
         here = places.here;
@@ -519,12 +525,12 @@ module _ (c : Code) (kept : (d : Instruction) → Contains c.instructions d → 
   to_go n = goes_fit n (λ at. at.to) (λ at places. places.to) (λ at places. places.to_fits)
 
   test_is : (n : ℕ) (test : Option Expr) → IsExpr callable n (test_or_one test) →
-      FitsExpr c kept callable entries n (expr_code (test_or_one test))
+      FitsExpr c integers kept callable entries n (expr_code integers (test_or_one test))
   test_is n test is = expr_is n (test_or_one test) is
 
   -- a block's own slots are out of scope after it
-  block_fits : (n i : ℕ) (ts : List Stmt) → n ≤ i → FitsList n i (map stmt_code ts) →
-      FitsFrom n n (list_code (map stmt_code ts))
+  block_fits : (n i : ℕ) (ts : List Stmt) → n ≤ i → FitsList n i (map (stmt_code integers) ts) →
+      FitsFrom n n (list_code (map (stmt_code integers) ts))
   block_fits n i ts stay list at next places within stands =
       let fits = places.to_fits in
       list at next (record {
@@ -541,93 +547,106 @@ module _ (c : Code) (kept : (d : Instruction) → Contains c.instructions d → 
 
   mutual
     -- the code of a statement in order fits
-    pub stmt_fits : (n : ℕ) (t : Stmt) (k : ℕ) → IsStmt callable n t k → FitsStmt n k (stmt_code t)
+    pub stmt_fits : (n : ℕ) (t : Stmt) (k : ℕ) → IsStmt callable n t k →
+        FitsStmt n k (stmt_code integers t)
     stmt_fits n t k (scope.empty _) =
-        subst (FitsStmt n k) (sym code-Empty) (record { slots = refl; code = to_go n })
+        subst (FitsStmt n k) (sym (code-Empty integers)) (record { slots = refl; code = to_go n })
     stmt_fits n t k (scope.unset _) =
-        subst (FitsStmt n k) (sym (code-Declare n None))
+        subst (FitsStmt n k) (sym (code-Declare integers n None))
         (record {
           slots = omega arith;
           code =
-              declares_fit n (expr_code (Lit (pos 0)))
+              declares_fit n (expr_code integers (Lit (pos 0)))
               (expr_is n (Lit (pos 0)) (scope.literal (pos 0)));
         })
     stmt_fits n t k (scope.declared _ e is) =
-        subst (FitsStmt n k) (sym (code-Declare n (Some e)))
-        (record { slots = omega arith; code = declares_fit n (expr_code e) (expr_is n e is) })
+        subst (FitsStmt n k) (sym (code-Declare integers n (Some e)))
+        (record {
+          slots = omega arith;
+          code =
+              declares_fit n (expr_code integers e) (expr_is n e is);
+        })
     stmt_fits n t k (scope.assigned_to _ v e below is) =
-        subst (FitsStmt n k) (sym (code-Assign v e))
-        (record { slots = refl; code = assigns_fit n v (expr_code e) below (expr_is n e is) })
-    stmt_fits n t k (scope.if_alone _ l e u is inner) =
-        subst (FitsStmt n k) (sym (code-If e u None))
+        subst (FitsStmt n k) (sym (code-Assign integers v e))
         (record {
           slots = refl;
-          code = if_fits n l (expr_code e) (stmt_code u)
+          code = assigns_fit n v (expr_code integers e) below
+              (expr_is n e is);
+        })
+    stmt_fits n t k (scope.if_alone _ l e u is inner) =
+        subst (FitsStmt n k) (sym (code-If integers e u None))
+        (record {
+          slots = refl;
+          code = if_fits n l (expr_code integers e) (stmt_code integers u)
               (slots_stay callable n l u inner) (expr_is n e is) (stmt_fits n u l inner);
         })
     stmt_fits n t k (scope.if_else _ l l' e u v is inner other) =
-        subst (FitsStmt n k) (sym (code-If e u (Some v))) (record {
+        subst (FitsStmt n k) (sym (code-If integers e u (Some v))) (record {
           slots = refl;
           code =
-              if_else_fits n l l' (expr_code e) (stmt_code u) (stmt_code v)
+              if_else_fits n l l' (expr_code integers e) (stmt_code integers u)
+              (stmt_code integers v)
               (slots_stay callable n l u inner) (slots_stay callable n l' v other)
               (expr_is n e is) (stmt_fits n u l inner) (stmt_fits n v l' other);
         })
     stmt_fits n t k (scope.while_loop _ l e u is inner) =
-        subst (FitsStmt n k) (sym (code-While e u))
+        subst (FitsStmt n k) (sym (code-While integers e u))
         (record {
           slots = refl;
-          code = while_fits n l (expr_code e) (stmt_code u)
+          code = while_fits n l (expr_code integers e) (stmt_code integers u)
               (slots_stay callable n l u inner) (expr_is n e is) (stmt_fits n u l inner);
         })
     stmt_fits n t k (scope.do_loop _ l e u is inner) =
-        subst (FitsStmt n k) (sym (code-DoWhile u e))
+        subst (FitsStmt n k) (sym (code-DoWhile integers u e))
         (record {
           slots = refl;
-          code = do_fits n l (stmt_code u) (expr_code e)
+          code = do_fits n l (stmt_code integers u) (expr_code integers e)
               (slots_stay callable n l u inner) (stmt_fits n u l inner) (expr_is n e is);
         })
     stmt_fits n t k (scope.for_loop _ i l first test u begun is inner) =
-        subst (FitsStmt n k) (sym (code-For first test None u)) (record {
+        subst (FitsStmt n k) (sym (code-For integers first test None u)) (record {
           slots = refl;
           code =
-              for_fits n i (map stmt_code first) (expr_code (test_or_one test)) None (stmt_code u)
+              for_fits n i (map (stmt_code integers) first)
+              (expr_code integers (test_or_one test)) None (stmt_code integers u)
               (all_slots_stay callable n i first begun)
-              (list_slots any_action callable n first i begun) (list_fits n first i begun)
-              (turn_fits n i l (expr_code (test_or_one test)) (stmt_code u)
+              (list_slots integers any_action callable n first i begun) (list_fits n first i begun)
+              (turn_fits n i l (expr_code integers (test_or_one test)) (stmt_code integers u)
               (slots_stay callable i l u inner) (test_is i test is) (stmt_fits i u l inner));
         })
     stmt_fits n t k (scope.for_change _ i l l' first test v u begun is changed inner) =
-        subst (FitsStmt n k) (sym (code-For first test (Some v) u)) (record {
+        subst (FitsStmt n k) (sym (code-For integers first test (Some v) u)) (record {
           slots = refl;
           code =
-              for_fits n i (map stmt_code first) (expr_code (test_or_one test)) (Some (stmt_code v))
-              (stmt_code u)
+              for_fits n i (map (stmt_code integers) first) (expr_code integers (test_or_one test))
+              (Some (stmt_code integers v))
+              (stmt_code integers u)
               (all_slots_stay callable n i first begun)
-              (list_slots any_action callable n first i begun) (list_fits n first i begun)
-              (change_turn_fits n i l l' (expr_code (test_or_one test)) (stmt_code v) (stmt_code u)
+              (list_slots integers any_action callable n first i begun) (list_fits n first i begun)
+              (change_turn_fits n i l l' (expr_code integers (test_or_one test))
+              (stmt_code integers v) (stmt_code integers u)
               (slots_stay callable i l u inner) (slots_stay callable i l' v changed)
               (test_is i test is) (stmt_fits i v l' changed) (stmt_fits i u l inner));
         })
     stmt_fits n t k (scope.break_out _ token) =
-        subst (FitsStmt n k) (sym (code-Break token))
+        subst (FitsStmt n k) (sym (code-Break integers token))
         (record {
           slots = refl;
           code = goes_fit n (λ at. at.break_to)
               (λ at places. places.breaks) (λ at places. places.break_fits);
         })
     stmt_fits n t k (scope.go_on _ token) =
-        subst (FitsStmt n k) (sym (code-Continue token))
+        subst (FitsStmt n k) (sym (code-Continue integers token))
         (record {
           slots = refl;
           code = goes_fit n (λ at. at.continue_to)
               (λ at places. places.continues) (λ at places. places.continue_fits);
         })
     stmt_fits n t k (scope.returned _ e is) =
-        subst (FitsStmt n k) (sym (code-Return e))
-        (record { slots = refl; code = returns_fit n (expr_code e) (expr_is n e is) })
+        subst (FitsStmt n k) (sym (code-Return integers e))
+        (record { slots = refl; code = returns_fit n (expr_code integers e) (expr_is n e is) })
     stmt_fits n t k (scope.block _ i ts inner) =
-        subst (FitsStmt n k) (sym (code-Block ts))
+        subst (FitsStmt n k) (sym (code-Block integers ts))
         (record {
           slots = refl;
           code = block_fits n i ts (all_slots_stay callable n i ts inner)
@@ -635,11 +654,11 @@ module _ (c : Code) (kept : (d : Instruction) → Contains c.instructions d → 
         })
 
     pub list_fits : (n : ℕ) (ts : List Stmt) (k : ℕ) → AreStmts callable n ts k →
-        FitsList n k (map stmt_code ts)
+        FitsList n k (map (stmt_code integers) ts)
     list_fits n [] k (scope.no_stmt _) = to_go n
     list_fits n (t ∷ []) k (scope.more_stmts _ l _ _ _ first rest) =
-        subst (λ j. FitsList n j (map stmt_code (t ∷ []))) (no_more callable l k rest)
+        subst (λ j. FitsList n j (map (stmt_code integers) (t ∷ []))) (no_more callable l k rest)
         (stmt_fits n t l first).code
     list_fits n (t ∷ u ∷ us) k (scope.more_stmts _ l _ _ _ first rest) =
-        one_fits n l k (stmt_code t) (stmt_code u) (map stmt_code us)
+        one_fits n l k (stmt_code integers t) (stmt_code integers u) (map (stmt_code integers) us)
         (slots_stay callable n l t first) (stmt_fits n t l first) (list_fits l (u ∷ us) k rest)

@@ -5,11 +5,13 @@ use Rattle.std.specs.Prelude.{Contains, slice_get}
 use Rattle.std.specs.List.{list_all, range_with_len}
 use Rattle.std.proofs.lemmas.List.Elements.{All-cons, All-nil}
 use Rattle.rx_plain.specs.Formed.{Formed}
+use Rattle.c_ast.specs.declared.integers.Integers.{Integers}
+use Rattle.c_ast.specs.declared.integers.Integers.TheVariants.{Unbounded, Bits32}
 use Rattle.c_ast.specs.declared.program.Function.{Function}
 use Rattle.c_ast.proofs.CallEquations.{calls-Lit, calls-Var, calls-Apply, calls_in-If, calls_in-Return}
 use Rattle.rx_plain.proofs.Kept.{first_or_other, first_one, other_one}
 use Rattle.rx_term.specs.declared.rule_set.RuleParts.{RuleParts}
-use Rattle.rx_code.specs.Example.{calls, calls_parts, caller, called, unused, crowded}
+use Rattle.rx_code.specs.Example.{calls, calls_parts, ranged_calls_parts, caller, called, unused, crowded}
 use Rattle.rx_code.specs.Programs.{entry_of}
 use Rattle.rx_code.specs.Reached.{AreReached, ByCall, IsFirst, IsSecond, no_number, next_number, Reached, calls_of}
 use Rattle.rx_code.specs.Rules.{instruction_within, parts_of, symbol}
@@ -88,24 +90,32 @@ are_reached = record {
 }
 
 -- what code is translated to
-abbrev of_code : Formed Code → Formed RuleParts
-of_code c =
+abbrev of_code : Integers → Formed Code → Formed RuleParts
+of_code integers c =
     record {
-      form = parts_of c.form;
+      form = parts_of integers c.form;
       within = c.within && list_all instruction_within
           c.form.instructions;
     }
 
-translated : rules_of calls both ≡ record { form = calls_parts; within = true }
-translated = ap of_code (
-    last_two unused caller called
+translated : rules_of Unbounded calls both ≡ record { form = calls_parts; within = true }
+translated = ap (of_code Unbounded) (
+    last_two Unbounded unused caller called
     (statement (returns (apply 2 (argument (var 0) no_argument))) no_statement)
     (statement (if_else (var 0) (returns (var 0)) no_part)
     (statement (returns (lit (pos 1))) no_statement)))
 
-pub calls_translated : IsTranslation calls 1 2 calls_parts (symbol 0) (symbol 4)
+ranged_translated : rules_of Bits32 calls both ≡
+    record { form = ranged_calls_parts; within = true }
+ranged_translated = ap (of_code Bits32) (
+    last_two Bits32 unused caller called
+    (statement (returns (apply 2 (argument (var 0) no_argument))) no_statement)
+    (statement (if_else (var 0) (returns (var 0)) no_part)
+    (statement (returns (lit (pos 1))) no_statement)))
+
+pub calls_translated : IsTranslation Unbounded calls 1 2 calls_parts (symbol 0) (symbol 4)
 calls_translated =
-    let whole = last_two unused caller called
+    let whole = last_two Unbounded unused caller called
     (statement (returns (apply 2 (argument (var 0) no_argument))) no_statement)
     (statement (if_else (var 0) (returns (var 0)) no_part)
     (statement (returns (lit (pos 1))) no_statement)) in
@@ -116,6 +126,24 @@ calls_translated =
       reached = are_reached;
       within = ap (λ (r : Formed RuleParts). r.within) translated;
       parts_are = sym (ap (λ (r : Formed RuleParts). r.form) translated);
+      first_is = sym (ap (λ (c : Formed Code). symbol (entry_of c.form.entries 1)) whole);
+      second_is = sym (ap (λ (c : Formed Code). symbol (entry_of c.form.entries 2)) whole);
+    }
+
+pub ranged_calls_translated : IsTranslation Bits32 calls 1 2 ranged_calls_parts (symbol 0)
+    (symbol 4)
+ranged_calls_translated =
+    let whole = last_two Bits32 unused caller called
+    (statement (returns (apply 2 (argument (var 0) no_argument))) no_statement)
+    (statement (if_else (var 0) (returns (var 0)) no_part)
+    (statement (returns (lit (pos 1))) no_statement)) in
+    record {
+      first_there = omega arith;
+      second_there = omega arith;
+      functions = both;
+      reached = are_reached;
+      within = ap (λ (r : Formed RuleParts). r.within) ranged_translated;
+      parts_are = sym (ap (λ (r : Formed RuleParts). r.form) ranged_translated);
       first_is = sym (ap (λ (c : Formed Code). symbol (entry_of c.form.entries 1)) whole);
       second_is = sym (ap (λ (c : Formed Code). symbol (entry_of c.form.entries 2)) whole);
     }
@@ -141,7 +169,7 @@ alone_reached h among = by (first_or_other 0 [] h among) where
   by (inl same) = subst (Reached crowded 0 0) same IsFirst
   by (inr other) = absurd (no_number_in h other)
 
-pub crowded_beyond : IsBeyond crowded 0 0
+pub crowded_beyond : IsBeyond Unbounded crowded 0 0
 crowded_beyond = record {
   functions = 0 ∷ [];
   reached = record {

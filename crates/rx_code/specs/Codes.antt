@@ -8,6 +8,8 @@ use Rattle.rx_poly.specs.Products.{body_product}
 use Rattle.rx_poly.specs.declared.body.Body.{Body}
 use Rattle.rx_row.specs.declared.row.Row.{Row}
 use Rattle.rx_row.specs.declared.row.Row.TheVariants as row
+use Rattle.c_ast.specs.declared.integers.Integers.{Integers}
+use Rattle.c_ast.specs.declared.integers.Integers.TheVariants.{Unbounded, Bits32}
 use Rattle.c_ast.specs.declared.expr.UnOp.TheVariants as unary
 use Rattle.c_ast.specs.declared.expr.BinOp.{BinOp}
 use Rattle.c_ast.specs.declared.expr.BinOp.TheVariants as binary
@@ -16,8 +18,9 @@ use Rattle.c_ast.specs.declared.expr.Expr.TheVariants as expr
 use Rattle.c_ast.specs.declared.program.Function.{Function}
 use Rattle.c_ast.specs.declared.stmt.Stmt.{Stmt}
 use Rattle.c_ast.specs.declared.stmt.Stmt.TheVariants as stmt
+use Rattle.rx_code.specs.Expressions.{above, below, tested_by}
 use Rattle.rx_code.specs.Points.{Actions}
-use Rattle.rx_code.specs.declared.action.Action.TheVariants.{Go, Set, Test, Divide, Call, Resume, Return}
+use Rattle.rx_code.specs.declared.action.Action.TheVariants.{Go, Set, Test, Exclude, Divide, Call, Resume, Return}
 use Rattle.rx_code.specs.declared.action.Division.{Division}
 use Rattle.rx_code.specs.declared.action.Division.TheVariants.{Quotient, Remainder}
 use Rattle.rx_code.specs.declared.point.Point.{Point}
@@ -64,9 +67,18 @@ abbrev pub test_or_one : Option Expr → Expr
 test_or_one None = expr.Lit (pos 1)
 test_or_one (Some e) = e
 
+-- `acts` says what is done at points
+module _ (acts : Actions) where
+  -- from the point a on the value is tested by the kind of integers; at b it is one of them
+  pub data IsRanged : Integers → Body → Point → Point → Type 0 where
+    untested : (p : Body) (a : Point) → IsRanged Unbounded p a a
+    tested : (p : Body) (a h b : Point) → acts a (Exclude (above p).form h)
+        → acts h (Exclude (below p).form b) → h.width ≡ a.width → b.width ≡ a.width →
+        IsRanged Bits32 p a b
+
 -- `acts` says what is done at points; `callable` says of a function, by its place, whether it takes
 -- n arguments
-module _ (acts : Actions) (callable : ℕ → ℕ → Type 0) where
+module _ (integers : Integers) (acts : Actions) (callable : ℕ → ℕ → Type 0) where
   -- expressions, where n slots are in scope
   module _ (n : ℕ) where
     mutual
@@ -76,14 +88,16 @@ module _ (acts : Actions) (callable : ℕ → ℕ → Type 0) where
         variable_of : (v : ℕ) (a : Point) → v < n → IsValue (expr.Var v) a a (variable v)
         plus : (e : Expr) (a b : Point) (p : Body) → IsValue e a b p →
             IsValue (expr.Unary unary.Plus e) a b p
-        minus : (e : Expr) (a b : Point) (p : Body) → IsValue e a b p →
-            IsValue (expr.Unary unary.Minus e) a b (scaled_by (negsuc 0) p)
-        arithmetic : (op : BinOp) (e f : Expr) (a b c : Point) (p q r : Body) →
+        minus : (e : Expr) (a b c : Point) (p : Body) → IsValue e a b p →
+            IsRanged acts integers (scaled_by (negsuc 0) p) b c →
+            IsValue (expr.Unary unary.Minus e) a c (scaled_by (negsuc 0) p)
+        arithmetic : (op : BinOp) (e f : Expr) (a b c z : Point) (p q r : Body) →
             IsArithmetic op p q r → IsValue e a b p → IsValue f b c q
-            → IsValue (expr.Binary op e f) a c r
-        division : (op : BinOp) (d : Division) (e f : Expr) (a b c z : Point) (p q : Body) →
+            → IsRanged acts integers r c z → IsValue (expr.Binary op e f) a z r
+        division : (op : BinOp) (d : Division) (e f : Expr) (a b c y z : Point) (p q : Body) →
             IsDivision op d → IsValue e a b p → IsValue f b c q
-            → acts c (Divide d p q z) → z.width ≡ suc c.width →
+            → acts c (Divide d p q y) → y.width ≡ suc c.width
+            → IsRanged acts (tested_by integers d) (variable c.width) y z →
             IsValue (expr.Binary op e f) a z (variable c.width)
         -- the frame has as many variables as the point of the call, and what is returned is the
         -- next one

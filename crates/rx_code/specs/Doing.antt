@@ -1,6 +1,7 @@
 -- What rules do at points: from a point, or from a frame over a result, one step leads to where the
 -- action there leads.
-use Rattle.std.specs.Prelude.{◌≡◌, ◌≢◌, ℕ, List, [], ◌∷◌, ◌++◌, length, map, take, ℤ, pos}
+use Rattle.std.specs.Prelude.{◌≡◌, ◌≢◌, ℕ, List, [], ◌∷◌, ◌++◌, Contains, length, map, take, ℤ, pos}
+use Rattle.c_ast.specs.declared.integers.Integers.{Integers}
 use Rattle.rx_poly.specs.Value.{value}
 use Rattle.rx_row.specs.Holds.{RowHolds}
 use Rattle.rx_row.specs.Negation.{negation}
@@ -9,16 +10,18 @@ use Rattle.rx_rewriting.specs.Terms.{Ground, Relation}
 use Rattle.rx_rewriting.specs.Steps.{Step}
 use Rattle.rx_term.specs.Assigned.{assigned}
 use Rattle.rx_code.specs.Points.{division_result, with_element}
+use Rattle.rx_code.specs.Rules.{failure_codes}
 use Rattle.rx_code.specs.declared.action.Action.{Action}
-use Rattle.rx_code.specs.declared.action.Action.TheVariants.{Go, Set, Test, Divide, Call, Resume, Return}
+use Rattle.rx_code.specs.declared.action.Action.TheVariants.{Go, Set, Test, Exclude, Divide, Call, Resume, Return}
 use Rattle.rx_code.specs.declared.point.Point.{Point}
 
 -- a point with these integers: a jump passes as many as the point has variables, from the first on
 abbrev pub at_point : Point → List ℤ → Ground
 at_point a xs = stack.Call a.symbol (take a.width xs)
 
--- `entry` has the symbol where the function at each place begins; `xs` are the integers of the variables
-module _ (R : Relation) (entry : ℕ → ℕ) where
+-- `entry` has the symbol where the function at each place begins; `xs` are the integers of the
+-- variables
+module _ (integers : Integers) (R : Relation) (entry : ℕ → ℕ) where
   -- one step from the point
   abbrev pub StepsFrom : Point → List ℤ → Ground → Type 0
   StepsFrom a xs t = Step R (stack.Call a.symbol xs) t
@@ -31,6 +34,9 @@ module _ (R : Relation) (entry : ℕ → ℕ) where
   Does a (Test row y w) = (xs : List ℤ) → length xs ≡ a.width →
       (RowHolds (assigned xs) row → StepsFrom a xs (at_point y xs))
       × (RowHolds (assigned xs) (negation row) → StepsFrom a xs (at_point w xs))
+  Does a (Exclude row z) = (xs : List ℤ) → length xs ≡ a.width →
+      (RowHolds (assigned xs) row → StepsFrom a xs (stack.Fail 2))
+      × (RowHolds (assigned xs) (negation row) → StepsFrom a xs (at_point z xs))
   Does a (Divide d p q z) = (xs : List ℤ) → length xs ≡ a.width →
       (value (assigned xs) q ≡ pos 0 → StepsFrom a xs (stack.Fail 1))
       × (value (assigned xs) q ≢ pos 0 →
@@ -39,10 +45,11 @@ module _ (R : Relation) (entry : ℕ → ℕ) where
   Does a (Call f ps r) = (xs : List ℤ) → length xs ≡ a.width →
       StepsFrom a xs (stack.Frame r.symbol (take r.width xs)
       (stack.Call (entry f) (map (value (assigned xs)) ps)))
-  -- a frame over a returned integer, and over a failure
+  -- a frame over a returned integer, and over each failure
   Does a (Resume z) = (xs : List ℤ) → length xs ≡ a.width →
       ((x : ℤ) → Step R (stack.Frame a.symbol xs (stack.Return x)) (at_point z (xs ++ x ∷ [])))
-      × Step R (stack.Frame a.symbol xs (stack.Fail 1)) (stack.Fail 1)
+      × ((code : ℕ) → Contains (failure_codes integers) code →
+      Step R (stack.Frame a.symbol xs (stack.Fail code)) (stack.Fail code))
   Does a (Return p) =
       (xs : List ℤ) → length xs ≡ a.width → StepsFrom a xs (stack.Return (value (assigned xs) p))
 

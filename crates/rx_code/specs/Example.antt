@@ -1,6 +1,6 @@
 -- Small programs, and the rules that they are compiled to. A rule is written like `s4(v0,v1) ->
 -- s5(v0)`: `s` is the call of a symbol.
-use Rattle.std.specs.Prelude.{ℕ, Bool, true, false, Some, None, List, [], ◌∷◌, pos, negsuc}
+use Rattle.std.specs.Prelude.{ℕ, Bool, true, false, Some, None, List, [], ◌∷◌, ◌++◌, pos, negsuc}
 use Rattle.std.specs.List.{range_with_len}
 use Rattle.rx_poly.specs.Constants.{number, variable}
 use Rattle.rx_poly.specs.Division.{quotient_of, remainder_of}
@@ -168,7 +168,8 @@ division_rules =
     ∷ []
 
 abbrev pub division_parts : RuleParts
-division_parts = record { symbols = division_symbols; domains = []; rules = division_rules; fails = 1 }
+division_parts =
+    record { symbols = division_symbols; domains = []; rules = division_rules; fails = 1 }
 
 -- ---- most of the other forms: 26 symbols, 37 rules
 
@@ -507,6 +508,112 @@ calls_rules =
 
 abbrev pub calls_parts : RuleParts
 calls_parts = record { symbols = calls_symbols; domains = []; rules = calls_rules; fails = 1 }
+
+-- of 32-bit integers one failure more is handed on
+abbrev ranged_calls_rules : List Rule
+ranged_calls_rules =
+    always (s 0 (v0 ∷ [])) (Frame (symbol 2) (v0 ∷ []) (s 4 (v0 ∷ [])))
+    ∷ always (s 1 []) (Return (number (pos 0)))
+    ∷ always (Frame (symbol 2) (v0 ∷ []) (Return v1)) (s 3 (v0 ∷ v1 ∷ []))
+    ∷ always (Frame (symbol 2) (v0 ∷ []) (Fail 1)) (Fail 1)
+    ∷ always (Frame (symbol 2) (v0 ∷ []) (Fail 2)) (Fail 2)
+    ∷ always (s 3 (v0 ∷ v1 ∷ [])) (Return v1)
+    ∷ where_holds (Ne v0) (s 4 (v0 ∷ [])) (s 7 (v0 ∷ []))
+    ∷ where_holds (Eq v0) (s 4 (v0 ∷ [])) (s 6 (v0 ∷ []))
+    ∷ always (s 5 []) (Return (number (pos 0)))
+    ∷ always (s 6 (v0 ∷ [])) (Return (number (pos 1)))
+    ∷ always (s 7 (v0 ∷ [])) (Return v0)
+    ∷ []
+
+abbrev pub ranged_calls_parts : RuleParts
+ranged_calls_parts =
+    record { symbols = calls_symbols; domains = []; rules = ranged_calls_rules; fails = 2 }
+
+-- ---- results that are tested for being 32-bit integers: fourteen symbols, 24 rules
+
+-- int halves(int x, int y) { return -x / 2 + y % 3; }
+abbrev pub halves : Function
+halves = record {
+  name = 1;
+  params = 0 ∷ 1 ∷ [];
+  body = stmt.Return (Binary binary.Add
+      (Binary binary.Div (Unary unary.Minus (Var 0)) (Lit (pos 2)))
+      (Binary binary.Rem (Var 1) (Lit (pos 3))))
+      ∷ [];
+}
+
+-- int again(int x, int y) { return halves(y, x); }
+abbrev pub again : Function
+again = record {
+  name = 2;
+  params = 0 ∷ 1 ∷ [];
+  body = stmt.Return (Apply 0 ((Var 1) ∷ (Var 0) ∷ [])) ∷ [];
+}
+
+abbrev pub ranges : Resolved
+ranges = program (halves ∷ again ∷ [])
+
+abbrev ranges_symbols : List SymInfo
+ranges_symbols =
+    info 2 false true false
+    ∷ info 0 false false false
+    ∷ info 2 false false false
+    ∷ info 2 false false false
+    ∷ info 3 false false false
+    ∷ info 3 false false false
+    ∷ info 3 false false false
+    ∷ info 4 false false false
+    ∷ info 4 false false false
+    ∷ info 4 false false false
+    ∷ info 2 false true false
+    ∷ info 0 false false false
+    ∷ info 2 true false false
+    ∷ info 3 false false false
+    ∷ []
+
+-- p - 2147483648, which is 0 or more above the greatest 32-bit integer, and -p - 2147483649, which
+-- is below the least
+abbrev above_all : Body → Body
+above_all p = body_difference p (number (pos 2147483648))
+
+abbrev below_all : Body → Body
+below_all p = body_difference (scaled_by (negsuc 0) p) (number (pos 2147483649))
+
+-- the rules at a symbol that fails by the range error where the first is 0 or more
+abbrev fails_or : Body → Term → Term → List Rule
+fails_or p at on =
+    where_holds (Ge p) at (Fail 2) ∷ where_holds (Ge (minus_one_more p)) at on ∷ []
+
+abbrev ranges_rules : List Rule
+ranges_rules =
+    let minus = scaled_by (negsuc 0) v0 in
+    let two = v0 ∷ v1 ∷ [] in
+    let three = v0 ∷ v1 ∷ v2 ∷ [] in
+    let four = v0 ∷ v1 ∷ v2 ∷ v3 ∷ [] in
+    fails_or (above_all minus) (s 0 two) (s 2 two)
+    ++ always (s 1 []) (Return (number (pos 0)))
+    ∷ fails_or (below_all minus) (s 2 two) (s 3 two)
+    ++ where_holds (Eq (number (pos 2))) (s 3 two) (Fail 1)
+    ∷ where_holds (Ne (number (pos 2))) (s 3 two)
+    (s 4 (v0 ∷ v1 ∷ quotient_of minus (number (pos 2)) ∷ []))
+    ∷ fails_or (above_all v2) (s 4 three) (s 5 three)
+    ++ fails_or (below_all v2) (s 5 three) (s 6 three)
+    ++ where_holds (Eq (number (pos 3))) (s 6 three) (Fail 1)
+    ∷ where_holds (Ne (number (pos 3))) (s 6 three)
+    (s 7 (v0 ∷ v1 ∷ v2 ∷ remainder_of v1 (number (pos 3)) ∷ []))
+    ∷ fails_or (above_all (body_sum v2 v3)) (s 7 four) (s 8 four)
+    ++ fails_or (below_all (body_sum v2 v3)) (s 8 four) (s 9 four)
+    ++ always (s 9 four) (Return (body_sum v2 v3))
+    ∷ always (s 10 two) (Frame (symbol 12) two (s 0 (v1 ∷ v0 ∷ [])))
+    ∷ always (s 11 []) (Return (number (pos 0)))
+    ∷ always (Frame (symbol 12) two (Return v2)) (s 13 three)
+    ∷ always (Frame (symbol 12) two (Fail 1)) (Fail 1)
+    ∷ always (Frame (symbol 12) two (Fail 2)) (Fail 2)
+    ∷ always (s 13 three) (Return v2)
+    ∷ []
+
+abbrev pub ranges_parts : RuleParts
+ranges_parts = record { symbols = ranges_symbols; domains = []; rules = ranges_rules; fails = 2 }
 
 -- ---- one function of more parameters than a symbol may have variables
 

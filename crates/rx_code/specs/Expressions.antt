@@ -1,5 +1,6 @@
 -- The code of expressions: what is opened and done from a point on, to have an expression's value,
--- or to go to one of two points by whether it is 0.
+-- or to go to one of two points by whether it is 0. Of 32-bit integers, the results of `+`, `-`,
+-- `*` and `/` are tested for being one.
 use Rattle.std.specs.Prelude.{ℕ, ◌+◌, Bool, true, false, ◌&&◌, List, [], ◌∷◌, Option, Some, None, pos, negsuc}
 use Rattle.rx_plain.specs.Formed.{Formed, pure, kept, ◌>>=◌, ◌<$>◌}
 use Rattle.rx_poly.specs.Constants.{number, variable}
@@ -8,6 +9,8 @@ use Rattle.rx_poly.specs.Products.{product_formed}
 use Rattle.rx_poly.specs.declared.body.Body.{Body}
 use Rattle.rx_row.specs.declared.row.Row.{Row}
 use Rattle.rx_row.specs.declared.row.Row.TheVariants as row
+use Rattle.c_ast.specs.declared.integers.Integers.{Integers}
+use Rattle.c_ast.specs.declared.integers.Integers.TheVariants.{Unbounded, Bits32}
 use Rattle.c_ast.specs.declared.expr.UnOp.{UnOp}
 use Rattle.c_ast.specs.declared.expr.UnOp.TheVariants as unary
 use Rattle.c_ast.specs.declared.expr.BinOp.{BinOp}
@@ -17,7 +20,7 @@ use Rattle.c_ast.specs.declared.expr.Expr.TheOpen.{Expr-F}
 use Rattle.c_ast.specs.declared.expr.Expr.TheFolds.{fold-Expr}
 use Rattle.c_ast.specs.declared.expr.Expr.TheViews.{out-Expr}
 use Rattle.rx_code.specs.Pieces.{no_code, append_code, after, point, a_point, a_frame, opens, does, is_room}
-use Rattle.rx_code.specs.declared.action.Action.TheVariants.{Set, Test, Divide, Call, Resume}
+use Rattle.rx_code.specs.declared.action.Action.TheVariants.{Set, Test, Exclude, Divide, Call, Resume}
 use Rattle.rx_code.specs.declared.action.Division.{Division}
 use Rattle.rx_code.specs.declared.action.Division.TheVariants.{Quotient, Remainder}
 use Rattle.rx_code.specs.declared.code.Code.{Code}
@@ -52,6 +55,16 @@ test_of binary.Ge p q = row.Ge <$> kept is_within (body_difference p q)
 test_of binary.Eq p q = row.Eq <$> kept is_within (body_difference p q)
 -- `!=`; other operators aren't asked
 test_of _ p q = row.Ne <$> kept is_within (body_difference p q)
+
+-- p - 2147483648 >= 0: the value is above every 32-bit integer
+abbrev pub above : Body → Formed Row
+above p = row.Ge <$> kept is_within (body_difference p (number (pos 2147483648)))
+
+-- -p - 2147483649 >= 0: the value is below every one
+abbrev pub below : Body → Formed Row
+below p = do
+  q ← kept is_within (scaled_by (negsuc 0) p)
+  row.Ge <$> kept is_within (body_difference q (number (pos 2147483649)))
 
 -- ---- what a compiled expression is
 
@@ -112,6 +125,43 @@ of_condition condition = record {
   condition = condition;
 }
 
+-- ---- results that may be out of range
+
+-- from a point on a value is tested for being a 32-bit integer: two new points have it, the first
+-- where it isn't above these, the second where it isn't below them either
+abbrev pub range_tests : Body → Point → ℕ → Valued
+range_tests p a next =
+    let h = point next a.width in
+    let b = point (next + 1) a.width in
+    let over = above p in
+    let under = below p in
+    record {
+      code = append_code (opens (a_point a.width ∷ a_point a.width ∷ []))
+          (append_code (does a (Exclude over.form h)) (does h (Exclude under.form b)));
+      at = b;
+      value = p;
+      within = is_room next a.width
+          && (is_room (next + 1) a.width && (over.within && under.within));
+    }
+
+-- the value of an operator: of 32-bit integers it is tested
+abbrev pub ranged : Integers → Value → Value
+ranged Unbounded value a next = value a next
+ranged Bits32 value a next =
+    let v = value a next in
+    let t = range_tests v.value v.at (after next v.code) in
+    record {
+      code = append_code v.code t.code;
+      at = t.at;
+      value = t.value;
+      within = v.within && t.within;
+    }
+
+-- a quotient is tested; a remainder isn't, since of two 32-bit integers it is one
+abbrev pub tested_by : Integers → Division → Integers
+tested_by integers Quotient = integers
+tested_by integers Remainder = Unbounded
+
 -- ---- operators
 
 -- two operands, from left to right
@@ -134,27 +184,6 @@ operands l r a next =
       within =
           x.within && y.within;
     }
-
--- `+`, `-` and `*`
-abbrev pub arithmetic : BinOp → Asked → Asked → Asked
-arithmetic op l r = of_value (λ a next.
-    let t = operands l r a next in
-    let v = arithmetic_of op t.left t.right in
-    record { code = t.code; at = t.at; value = v.form; within = t.within && v.within })
-
--- `/` and `%`: a new point has the result as one variable more
-abbrev pub division : Division → Asked → Asked → Asked
-division d l r = of_value (λ a next.
-    let t = operands l r a next in
-    let b = point (after next t.code) (t.at.width + 1) in
-    record {
-      code =
-          append_code t.code (append_code (opens (a_point (t.at.width + 1) ∷ []))
-          (does t.at (Divide d t.left t.right b)));
-      at = b;
-      value = variable t.at.width;
-      within = t.within && is_room (after next t.code) (t.at.width + 1);
-    })
 
 -- a comparison tests its row
 abbrev pub comparison : BinOp → Asked → Asked → Asked
@@ -189,19 +218,6 @@ disjunction l r = of_condition (λ a y w next.
       within = is_room next a.width && (c.within && d.within);
     })
 
--- an operator before its operand; `!` exchanges the two points
-abbrev pub unary_code : UnOp → Asked → Asked
-unary_code unary.Plus e = of_value e.value
-unary_code unary.Minus e = of_value (λ a next.
-    let v = e.value a next in
-    record {
-      code = v.code;
-      at = v.at;
-      value = scaled_by (negsuc 0) v.value;
-      within = v.within && is_within (scaled_by (negsuc 0) v.value);
-    })
-unary_code unary.Not e = of_condition (λ a y w next. e.condition a w y next)
-
 -- operators that are compiled alike
 abbrev pub kind_of : BinOp → OpKind
 kind_of binary.Add = Arithmetic
@@ -223,16 +239,6 @@ abbrev pub division_of : BinOp → Division
 division_of binary.Div = Quotient
 -- `%`; other operators aren't asked
 division_of _ = Remainder
-
--- an operator between its operands
-abbrev pub binary_code : OpKind → BinOp → Asked → Asked → Asked
-binary_code Arithmetic op l r = arithmetic op l r
-binary_code Dividing op l r = division (division_of op) l r
-binary_code Comparing op l r = comparison op l r
-binary_code Conjunction op l r = conjunction l r
-binary_code Disjunction op l r = disjunction l r
-
--- ---- expressions
 
 -- arguments, from left to right
 pub record Arguments : Type 0 where
@@ -292,20 +298,65 @@ call f es = of_value (λ a next.
       within = xs.within && (is_room n xs.at.width && is_room (n + 1) (xs.at.width + 1));
     })
 
--- an expression, from its parts
-abbrev pub expr_level : Expr-F Asked → Asked
-expr_level (Expr-F.Lit k) =
-    of_value (λ a next. record { code = no_code; at = a; value = number k; within = true })
-expr_level (Expr-F.Var v) =
-    of_value (λ a next. record { code = no_code; at = a; value = variable v; within = true })
-expr_level (Expr-F.Unary op e) = unary_code op e
-expr_level (Expr-F.Binary op l r) = binary_code (kind_of op) op l r
-expr_level (Expr-F.Choose c e f) = choice c e f
-expr_level (Expr-F.Apply f es) = call f es
+-- ---- expressions, by the kind of integers
 
--- the code of an expression
-abbrev pub expr_code : Expr → Asked
-expr_code = fold-Expr Asked expr_level
+module _ (integers : Integers) where
+  -- `+`, `-` and `*`
+  abbrev pub arithmetic : BinOp → Asked → Asked → Asked
+  arithmetic op l r = of_value (ranged integers (λ a next.
+      let t = operands l r a next in
+      let v = arithmetic_of op t.left t.right in
+      record { code = t.code; at = t.at; value = v.form; within = t.within && v.within }))
+
+  -- `/` and `%`: a new point has the result as one variable more
+  abbrev pub division : Division → Asked → Asked → Asked
+  division d l r = of_value (ranged (tested_by integers d) (λ a next.
+      let t = operands l r a next in
+      let b = point (after next t.code) (t.at.width + 1) in
+      record {
+        code =
+            append_code t.code (append_code (opens (a_point (t.at.width + 1) ∷ []))
+            (does t.at (Divide d t.left t.right b)));
+        at = b;
+        value = variable t.at.width;
+        within = t.within && is_room (after next t.code) (t.at.width + 1);
+      }))
+
+  -- an operator before its operand; `!` exchanges the two points
+  abbrev pub unary_code : UnOp → Asked → Asked
+  unary_code unary.Plus e = of_value e.value
+  unary_code unary.Minus e = of_value (ranged integers (λ a next.
+      let v = e.value a next in
+      record {
+        code = v.code;
+        at = v.at;
+        value = scaled_by (negsuc 0) v.value;
+        within = v.within && is_within (scaled_by (negsuc 0) v.value);
+      }))
+  unary_code unary.Not e = of_condition (λ a y w next. e.condition a w y next)
+
+  -- an operator between its operands
+  abbrev pub binary_code : OpKind → BinOp → Asked → Asked → Asked
+  binary_code Arithmetic op l r = arithmetic op l r
+  binary_code Dividing op l r = division (division_of op) l r
+  binary_code Comparing op l r = comparison op l r
+  binary_code Conjunction op l r = conjunction l r
+  binary_code Disjunction op l r = disjunction l r
+
+  -- an expression, from its parts
+  abbrev pub expr_level : Expr-F Asked → Asked
+  expr_level (Expr-F.Lit k) =
+      of_value (λ a next. record { code = no_code; at = a; value = number k; within = true })
+  expr_level (Expr-F.Var v) =
+      of_value (λ a next. record { code = no_code; at = a; value = variable v; within = true })
+  expr_level (Expr-F.Unary op e) = unary_code op e
+  expr_level (Expr-F.Binary op l r) = binary_code (kind_of op) op l r
+  expr_level (Expr-F.Choose c e f) = choice c e f
+  expr_level (Expr-F.Apply f es) = call f es
+
+  -- the code of an expression
+  abbrev pub expr_code : Expr → Asked
+  expr_code = fold-Expr Asked expr_level
 
 -- ---- which expressions are conditions, for the crates that compile
 

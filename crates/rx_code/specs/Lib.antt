@@ -2,6 +2,7 @@
 -- and programs, the rules of code, the rule set of two functions; and what it guarantees of points,
 -- as a relation without numbers.
 -- What rules do at points, and code that carries a program.
+pub mod Bounds
 pub mod Carried
 pub mod Codes
 pub mod Doing

@@ -1,6 +1,7 @@
 -- The code of statements: what is opened and done from a point on, and where it leads.
 use Rattle.std.specs.Prelude.{ℕ, ◌+◌, ◌&&◌, List, [], ◌∷◌, Option, Some, None, pos}
 use Rattle.rx_plain.specs.Formed.{Formed, pure}
+use Rattle.c_ast.specs.declared.integers.Integers.{Integers}
 use Rattle.c_ast.specs.declared.expr.Expr.{Expr}
 use Rattle.c_ast.specs.declared.expr.Expr.TheVariants.{Lit}
 use Rattle.c_ast.specs.declared.stmt.Stmt.{Stmt}
@@ -35,11 +36,6 @@ abbrev pub with_value : Asked → (Body → Action) → Point → ℕ → Formed
 with_value e action a next =
     let v = e.value a next in
     record { form = append_code v.code (does v.at (action v.value)); within = v.within }
-
--- an initial value, which is 0 where it is missing
-abbrev pub value_or_zero : Option Expr → Asked
-value_or_zero None = expr_code (Lit (pos 0))
-value_or_zero (Some e) = expr_code e
 
 -- the slots after a list of statements
 abbrev pub slots_after_all : List Compiled → ℕ → ℕ
@@ -152,7 +148,8 @@ abbrev pub loop_code : Asked → Option Compiled → Compiled → Point → Plac
 loop_code e None t h at next = turn_code e t h at.to next
 loop_code e (Some u) t h at next = change_turn_code e u t h at next
 
--- `for`: without a first part its head is the point at which it begins, otherwise a new point after that part
+-- `for`: without a first part its head is the point at which it begins, otherwise a new point after
+-- that part
 abbrev pub for_code : List Compiled → Asked → Option Compiled → Compiled → Places → ℕ → Formed Code
 for_code [] e change t at next = loop_code e change t at.at at next
 for_code (s ∷ ss) e change t at next =
@@ -165,32 +162,39 @@ for_code (s ∷ ss) e change t at next =
       within = is_room next n && (c.within && d.within);
     }
 
--- ---- statements
+-- ---- statements, by the kind of integers
 
 -- what is compiled where all slots that are declared in it are out of scope after it
 abbrev pub in_scope : (Places → ℕ → Formed Code) → Compiled
 in_scope code = record { slots_after = λ n. n; code = code }
 
--- a statement, from the statements in it
-abbrev pub stmt_level : Stmt-F Compiled → Compiled
-stmt_level Stmt-F.Empty = in_scope (λ at next. pure (does at.at (Go at.to)))
-stmt_level (Stmt-F.Declare slot value) = record {
-  slots_after = λ n. n + 1;
-  code = λ at next. with_value (value_or_zero value) (λ p. Set slot p at.to) at.at next;
-}
-stmt_level (Stmt-F.Assign slot value) =
-    in_scope (λ at next. with_value (expr_code value) (λ p. Set slot p at.to) at.at next)
-stmt_level (Stmt-F.If test inner other) = in_scope (branches_code (expr_code test) inner other)
-stmt_level (Stmt-F.While test inner) = in_scope (while_code (expr_code test) inner)
-stmt_level (Stmt-F.DoWhile inner test) = in_scope (do_code inner (expr_code test))
-stmt_level (Stmt-F.For first test change inner) =
-    in_scope (for_code first (expr_code (test_or_one test)) change inner)
-stmt_level (Stmt-F.Break token) = in_scope (λ at next. pure (does at.at (Go at.break_to)))
-stmt_level (Stmt-F.Continue token) = in_scope (λ at next. pure (does at.at (Go at.continue_to)))
-stmt_level (Stmt-F.Return value) =
-    in_scope (λ at next. with_value (expr_code value) Return at.at next)
-stmt_level (Stmt-F.Block inner) = in_scope (list_code inner)
+module _ (integers : Integers) where
+  -- an initial value, which is 0 where it is missing
+  abbrev pub value_or_zero : Option Expr → Asked
+  value_or_zero None = expr_code integers (Lit (pos 0))
+  value_or_zero (Some e) = expr_code integers e
 
--- the code of a statement
-abbrev pub stmt_code : Stmt → Compiled
-stmt_code = fold-Stmt Compiled stmt_level
+  -- a statement, from the statements in it
+  abbrev pub stmt_level : Stmt-F Compiled → Compiled
+  stmt_level Stmt-F.Empty = in_scope (λ at next. pure (does at.at (Go at.to)))
+  stmt_level (Stmt-F.Declare slot value) = record {
+    slots_after = λ n. n + 1;
+    code = λ at next. with_value (value_or_zero value) (λ p. Set slot p at.to) at.at next;
+  }
+  stmt_level (Stmt-F.Assign slot value) =
+      in_scope (λ at next. with_value (expr_code integers value) (λ p. Set slot p at.to) at.at next)
+  stmt_level (Stmt-F.If test inner other) =
+      in_scope (branches_code (expr_code integers test) inner other)
+  stmt_level (Stmt-F.While test inner) = in_scope (while_code (expr_code integers test) inner)
+  stmt_level (Stmt-F.DoWhile inner test) = in_scope (do_code inner (expr_code integers test))
+  stmt_level (Stmt-F.For first test change inner) =
+      in_scope (for_code first (expr_code integers (test_or_one test)) change inner)
+  stmt_level (Stmt-F.Break token) = in_scope (λ at next. pure (does at.at (Go at.break_to)))
+  stmt_level (Stmt-F.Continue token) = in_scope (λ at next. pure (does at.at (Go at.continue_to)))
+  stmt_level (Stmt-F.Return value) =
+      in_scope (λ at next. with_value (expr_code integers value) Return at.at next)
+  stmt_level (Stmt-F.Block inner) = in_scope (list_code inner)
+
+  -- the code of a statement
+  abbrev pub stmt_code : Stmt → Compiled
+  stmt_code = fold-Stmt Compiled stmt_level

@@ -22,13 +22,16 @@ pub enum Action {
     Set(u32, Poly, Point),
     /// On to the first point where the row holds, and to the second where it doesn't.
     Test(Row, Point, Point),
+    /// The failure of a result out of range where the row holds; otherwise on to the point.
+    Exclude(Row, Point),
     /// A failure where the second polynomial is 0; otherwise on to the point, which has the result
     /// of the division as one variable more.
     Divide(Division, Poly, Poly, Point),
     /// A call of the function at that place in the program, with those arguments; the frame waits
     /// for what it returns.
     Call(u32, Items<Poly>, Point),
-    /// At a frame: what was returned becomes one variable more of the point. A failure stays one.
+    /// At a frame: what was returned becomes one variable more of the point. A failure stays what
+    /// it is.
     Resume(Point),
     /// The value of the polynomial is returned.
     Return(Poly),

@@ -5,66 +5,62 @@ use Rattle.std.proofs.Math.Seq.{drop-cons}
 use Rattle.std.proofs.lemmas.Bool.{and_left}
 use Rattle.std.proofs.lemmas.List.{append-nil}
 use Rattle.rx_poly.specs.declared.body.Body.{Body}
+use Rattle.c_ast.specs.declared.integers.Integers.{Integers}
 use Rattle.c_ast.specs.declared.expr.Expr.{Expr}
 use Rattle.rx_code.specs.Expressions.{Arguments, arguments, expr_code}
-use Rattle.rx_code.specs.Pieces.{after, append_code, no_code}
+use Rattle.rx_code.specs.Pieces.{after, append_code}
 use Rattle.rx_code.specs.declared.code.Code.{Code}
 use Rattle.rx_code.specs.declared.point.Point.{Point}
 use Rattle.rx_exprs.specs.Compiles.{CompilesArguments, CompilesValue, arguments_at, value_at}
-use Rattle.rx_exprs.proofs.Operands.{append_code_assoc, opened-append}
+use Rattle.rx_exprs.proofs.Following.{append-no_code, append_code_assoc, opened-append}
 
 -- the code, the point and the values of the arguments so far, and those that are left
-pub record Compiling (old now : Code) (a at : Point) (values : List Body) (rest whole : List Expr) :
-    Type 0 where
-  pub code : append_code now (arguments_at rest at now).code ≡
-      append_code old (arguments_at whole a old).code
-  pub at_is : (arguments_at rest at now).at ≡ (arguments_at whole a old).at
-  pub values_are : values ++ (arguments_at rest at now).values ≡ (arguments_at whole a old).values
-  pub within : (arguments_at rest at now).within ≡ (arguments_at whole a old).within
+pub record Compiling (integers : Integers) (old now : Code) (a at : Point) (values : List Body)
+    (rest whole : List Expr) : Type 0 where
+  pub code : append_code now (arguments_at integers rest at now).code ≡
+      append_code old (arguments_at integers whole a old).code
+  pub at_is : (arguments_at integers rest at now).at ≡ (arguments_at integers whole a old).at
+  pub values_are : values ++ (arguments_at integers rest at now).values ≡
+      (arguments_at integers whole a old).values
+  pub within : (arguments_at integers rest at now).within ≡
+      (arguments_at integers whole a old).within
 
-pub begin : (old : Code) (a : Point) (es : List Expr) → Compiling old old a a [] (drop 0 es) es
-begin old a es = record { code = refl; at_is = refl; values_are = refl; within = refl }
+pub begin : (integers : Integers) (old : Code) (a : Point) (es : List Expr) →
+    Compiling integers old old a a [] (drop 0 es) es
+begin integers old a es = record { code = refl; at_is = refl; values_are = refl; within = refl }
 
--- no piece adds nothing
-pub append-no_code : (c : Code) → append_code c no_code ≡ c
-append-no_code c i =
-    record {
-      opened = append-nil c.opened i;
-      instructions = append-nil c.instructions i;
-      heads =
-          append-nil c.heads i;
-      entries = append-nil c.entries i;
-    }
-
-module _ {old now : Code} {a at : Point} {values : List Body} (es : List Expr) (k : ℕ) {e : Expr}
-    (h : k < length es) (is : e ≡ get_or es k e) (s : Compiling old now a at values (drop k es) es)
+module _ {integers : Integers} {old now : Code} {a at : Point} {values : List Body}
+    (es : List Expr) (k : ℕ) {e : Expr} (h : k < length es) (is : e ≡ get_or es k e)
+    (s : Compiling integers old now a at values (drop k es) es)
   where
-    opened : Compiling old now a at values (e ∷ drop (suc k) es) es
+    opened : Compiling integers old now a at values (e ∷ drop (suc k) es) es
     opened =
-        subst (λ rest. Compiling old now a at values rest es)
+        subst (λ rest. Compiling integers old now a at values rest es)
         (drop-cons es k e h ∙ ap (λ x. x ∷ drop (suc k) es) (sym is)) s
 
     -- those that are left after the next one
     abbrev left : Arguments
     left =
-        arguments (map expr_code (drop (suc k) es)) (value_at e at now).at
-        (after (length now.opened) (value_at e at now).code)
+        arguments (map (expr_code integers) (drop (suc k) es)) (value_at integers e at now).at
+        (after (length now.opened) (value_at integers e at now).code)
 
     -- an argument beyond the limits is one of all
-    pub no_argument : (value_at e at now).within ≡ false → (arguments_at es a old).within ≡ false
-    no_argument f = sym opened.within ∙ and_left (value_at e at now).within left.within f
+    pub no_argument : (value_at integers e at now).within ≡ false →
+        (arguments_at integers es a old).within ≡ false
+    no_argument f = sym opened.within ∙ and_left (value_at integers e at now).within left.within f
 
     -- one within them leaves it to the rest
     pub after_argument : (new : Code) (next : Point) (p : Body) (more : List Body) →
-        CompilesValue now new (Ok (next, p)) (value_at e at now) → more ≡ values ++ p ∷ []
-        → Compiling old new a next more (drop (k + 1) es) es
+        CompilesValue now new (Ok (next, p)) (value_at integers e at now) → more ≡ values ++ p ∷ []
+        → Compiling integers old new a next more (drop (k + 1) es) es
     after_argument new next p more v pushed =
-        let x = value_at e at now in
+        let x = value_at integers e at now in
         let count : length new.opened ≡ after (length now.opened) x.code =
         ap (λ (c : Code). length c.opened) v.0 ∙ opened-append now x.code in
-        let same : arguments_at (drop (suc k) es) next new ≡ left = λ i.
-        arguments (map expr_code (drop (suc k) es)) (v.1 i) (count i) in
-        subst (λ n. Compiling old new a next more (drop n es) es) (sym (add-one k)) (record {
+        let same : arguments_at integers (drop (suc k) es) next new ≡ left = λ i.
+        arguments (map (expr_code integers) (drop (suc k) es)) (v.1 i) (count i) in
+        subst (λ n. Compiling integers old new a next more (drop n es) es) (sym (add-one k))
+        (record {
           code =
               ap (λ (r : Arguments). append_code new r.code) same ∙
               ap (λ (c : Code). append_code c left.code) v.0 ∙
@@ -81,11 +77,13 @@ module _ {old now : Code} {a at : Point} {values : List Body} (es : List Expr) (
         })
 
 -- nothing is left
-pub finished : (old now : Code) (a at : Point) (values : List Body) (es : List Expr) (k : ℕ) →
-    length es ≤ k → Compiling old now a at values (drop k es) es
-    → CompilesArguments old now (Ok (at, values)) (arguments_at es a old)
-finished old now a at values es k h s =
-    let all = subst (λ rest. Compiling old now a at values rest es) (drop_of_length-le es h) s in (
+pub finished : (integers : Integers) (old now : Code) (a at : Point) (values : List Body)
+    (es : List Expr) (k : ℕ) →
+    length es ≤ k → Compiling integers old now a at values (drop k es) es
+    → CompilesArguments old now (Ok (at, values)) (arguments_at integers es a old)
+finished integers old now a at values es k h s =
+    let all = subst (λ rest. Compiling integers old now a at values rest es)
+    (drop_of_length-le es h) s in (
       sym (append-no_code now) ∙ all.code,
       all.at_is,
       sym (append-nil values) ∙ all.values_are,

@@ -1,15 +1,18 @@
 -- A call compiles exactly what the table says: where it succeeds, the code has that piece more, the
 -- answer is the table's, and all keeps the limits; where it answers Large, something doesn't.
-use Rattle.std.specs.Prelude.{◌≡◌, ℕ, ◌+◌, true, false, ◌&&◌, List, [], ◌∷◌, length, map, Result, Ok, Err}
-use Rattle.rx_plain.specs.Formed.{Formed}
+use Rattle.std.specs.Prelude.{◌≡◌, ℕ, ◌+◌, true, false, ◌&&◌, List, [], ◌∷◌, length, map, Result, Ok, Err, negsuc}
+use Rattle.rx_plain.specs.Formed.{Formed, kept}
 use Rattle.rx_poly.specs.Constants.{variable}
+use Rattle.rx_poly.specs.Limits.{is_within, scaled_by}
 use Rattle.rx_poly.specs.declared.body.Body.{Body}
 use Rattle.rx_poly.specs.declared.poly_end.PolyEnd.{PolyEnd}
 use Rattle.rx_poly.specs.declared.poly_end.PolyEnd.TheVariants.{Large}
+use Rattle.c_ast.specs.declared.integers.Integers.{Integers}
+use Rattle.c_ast.specs.declared.integers.Integers.TheVariants.{Unbounded, Bits32}
 use Rattle.c_ast.specs.declared.expr.BinOp.{BinOp}
 use Rattle.c_ast.specs.declared.expr.Expr.{Expr}
-use Rattle.rx_code.specs.Expressions.{Arguments, Valued, arguments, division_of, expr_code, of_condition}
-use Rattle.rx_code.specs.Pieces.{a_frame, a_point, append_code, does, is_room, opens, point}
+use Rattle.rx_code.specs.Expressions.{Arguments, Valued, arguments, arithmetic_of, division_of, expr_code, of_condition, range_tests, ranged, tested_by}
+use Rattle.rx_code.specs.Pieces.{a_frame, a_point, append_code, does, is_room, no_code, opens, point}
 use Rattle.rx_code.specs.declared.action.Action.TheVariants.{Call, Divide, Resume, Set}
 use Rattle.rx_code.specs.declared.code.Code.{Code}
 use Rattle.rx_code.specs.declared.point.Point.{Point}
@@ -31,19 +34,51 @@ abbrev pub CompilesCode : Code → Code → Result (Unit {0}) PolyEnd → Formed
 CompilesCode old new (Ok r) c = (new ≡ append_code old c.form) × (c.within ≡ true)
 CompilesCode old new (Err e) c = e ≡ Large → c.within ≡ false
 
--- the value of an expression at a point after the code
-abbrev pub value_at : Expr → Point → Code → Valued
-value_at e a code = (expr_code e).value a (length code.opened)
+-- ---- at a point after the code, by the kind of integers
 
--- its condition
-abbrev pub condition_at : Expr → Point → Point → Point → Code → Formed Code
-condition_at e a y w code = (expr_code e).condition a y w (length code.opened)
+module _ (integers : Integers) where
+  -- the value of an expression
+  abbrev pub value_at : Expr → Point → Code → Valued
+  value_at e a code = (expr_code integers e).value a (length code.opened)
 
--- the truth of an expression as its value
-abbrev pub truth_at : Expr → Point → Code → Valued
-truth_at e a code = (of_condition (expr_code e).condition).value a (length code.opened)
+  -- its condition
+  abbrev pub condition_at : Expr → Point → Point → Point → Code → Formed Code
+  condition_at e a y w code = (expr_code integers e).condition a y w (length code.opened)
 
--- a division of two values that are known at a point, with n symbols before
+  -- the truth of an expression as its value
+  abbrev pub truth_at : Expr → Point → Code → Valued
+  truth_at e a code = (of_condition (expr_code integers e).condition).value a (length code.opened)
+
+  -- an expression's value, set at the point at which it is known
+  abbrev pub set_at : Expr → ℕ → Point → Point → Code → Formed Code
+  set_at e slot b a code =
+      let v = value_at e a code in
+      record { form = append_code v.code (does v.at (Set slot v.value b)); within = v.within }
+
+  -- the values of arguments
+  abbrev pub arguments_at : List Expr → Point → Code → Arguments
+  arguments_at es a code = arguments (map (expr_code integers) es) a (length code.opened)
+
+-- ---- at a point at which the operands are known, with n symbols before
+
+-- a value without further code
+abbrev pub formed_at : Formed Body → Point → ℕ → Valued
+formed_at f at next = record { code = no_code; at = at; value = f.form; within = f.within }
+
+-- a value that is tested
+abbrev pub ranged_at : Integers → Body → Point → ℕ → Valued
+ranged_at Unbounded p at next = record { code = no_code; at = at; value = p; within = true }
+ranged_at Bits32 p at next = range_tests p at next
+
+-- the result of unary minus
+abbrev pub negated_at : Integers → Body → Point → ℕ → Valued
+negated_at integers p = ranged integers (formed_at (kept is_within (scaled_by (negsuc 0) p)))
+
+-- the result of `+`, `-` or `*`
+abbrev pub arithmetic_at : Integers → BinOp → Body → Body → Point → ℕ → Valued
+arithmetic_at integers op p q = ranged integers (formed_at (arithmetic_of op p q))
+
+-- a division
 abbrev pub division_at : BinOp → Body → Body → Point → ℕ → Valued
 division_at op p q at next =
     let b = point next (at.width + 1) in
@@ -56,7 +91,11 @@ division_at op p q at next =
       within = is_room next (at.width + 1);
     }
 
--- a call with arguments that are known at a point
+-- its result
+abbrev pub divided_at : Integers → BinOp → Body → Body → Point → ℕ → Valued
+divided_at integers op p q = ranged (tested_by integers (division_of op)) (division_at op p q)
+
+-- a call
 abbrev pub call_at : ℕ → List Body → Point → ℕ → Valued
 call_at f ps at next =
     let r = point next at.width in
@@ -68,13 +107,3 @@ call_at f ps at next =
       value = variable at.width;
       within = is_room next at.width && is_room (next + 1) (at.width + 1);
     }
-
--- an expression's value, set at the point at which it is known
-abbrev pub set_at : Expr → ℕ → Point → Point → Code → Formed Code
-set_at e slot b a code =
-    let v = value_at e a code in
-    record { form = append_code v.code (does v.at (Set slot v.value b)); within = v.within }
-
--- the values of arguments
-abbrev pub arguments_at : List Expr → Point → Code → Arguments
-arguments_at es a code = arguments (map expr_code es) a (length code.opened)

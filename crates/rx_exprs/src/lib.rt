@@ -3,6 +3,10 @@
 
 mod exprs;
 mod operators;
+mod ranges;
+mod results;
+mod setting;
 
 pub use exprs::{condition, set_value, value};
 pub use operators::{arithmetic, comparison};
+pub use setting::Setting;

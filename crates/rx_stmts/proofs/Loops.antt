@@ -1,12 +1,11 @@
--- Pieces that follow one another, and a `for` after its parts.
-use Rattle.std.proofs.Common.{◌≡◌, ◌∙◌, refl, sym, ap, subst, false, ◌&&◌, Bool, ℕ, ◌+◌, Option, Some, Result, Ok, Err, List, [], ◌∷◌, length, map, option_map, arith}
-use Rattle.std.proofs.lemmas.Bool.{and_from, and_left}
-use Rattle.std.specs.Prelude.{IsErrAnd}
+-- A `for` and an `if` after their parts.
+use Rattle.std.proofs.Common.{◌≡◌, ◌∙◌, refl, sym, ap, subst, ◌&&◌, ℕ, ◌+◌, Option, Some, Result, Ok, Err, List, [], ◌∷◌, length, map, option_map, arith}
+use Rattle.std.proofs.lemmas.Bool.{and_from}
 use Rattle.rx_plain.proofs.Naturals.{one_moved}
 use Rattle.rx_plain.proofs.Booleans.{and_assoc}
 use Rattle.rx_plain.specs.Formed.{Formed}
 use Rattle.rx_poly.specs.declared.poly_end.PolyEnd.{PolyEnd}
-use Rattle.rx_poly.specs.declared.poly_end.PolyEnd.TheVariants.{Large}
+use Rattle.c_ast.specs.declared.integers.Integers.{Integers}
 use Rattle.c_ast.specs.declared.expr.Expr.{Expr}
 use Rattle.c_ast.specs.declared.stmt.Stmt.{Stmt}
 use Rattle.c_ast.specs.declared.stmt.Stmt.TheVariants.{For, If}
@@ -20,39 +19,9 @@ use Rattle.rx_code.specs.declared.point.Point.{Point}
 use Rattle.rx_code.proofs.StmtEquations.{code-For, code-If}
 use Rattle.rx_exprs.specs.Compiles.{CompilesCode, condition_at}
 use Rattle.rx_exprs.proofs.Choices.{IsOpened, one_more}
-use Rattle.rx_exprs.proofs.Operands.{append_code_assoc, opened-append, second_false}
+use Rattle.rx_exprs.proofs.Following.{append_code_assoc, failed, followed, opened-append, then}
 use Rattle.rx_stmts.specs.Statements.{CompilesHead, CompilesTurn, Headed, as_places, head_at, head_code, stmt_at}
 use Rattle.rx_stmts.specs.declared.places.Places.{Places}
-
--- one piece after another
-abbrev pub followed : Formed Code → Formed Code → Formed Code
-followed c d = record { form = append_code c.form d.form; within = c.within && d.within }
-
-pub then : (old one new : Code) (c d : Formed Code) (result : Result (Unit {0}) PolyEnd) →
-    CompilesCode old one (Ok tt) c → CompilesCode one new result d
-    → CompilesCode old new result (followed c d)
-then old one new c d (Ok r) first second = (
-  second.0 ∙ ap (λ (x : Code). append_code x d.form) first.0 ∙
-      append_code_assoc old c.form d.form,
-  and_from c.within d.within first.1 second.1,
-)
-then old one new c d (Err e) first second =
-    λ large. second_false c.within d.within first.1 (second large)
-
--- the first of them fails
-pub failed : (old new : Code) (c d : Formed Code) (e : PolyEnd) → (e ≡ Large → c.within ≡ false) →
-    CompilesCode old new (Err e) (followed c d)
-failed old new c d e f = λ large. and_left c.within d.within (f large)
-
--- the call fails, and Large only where something is beyond the limits
-abbrev pub Fails : Result (Unit {0}) PolyEnd → Bool → Type 0
-Fails r within = IsErrAnd r (λ e. e ≡ Large → within ≡ false)
-
-pub fails_code : (old new : Code) (r : Result (Unit {0}) PolyEnd) (part : Bool)
-    (whole : Formed Code) → Fails r part → (part ≡ false → whole.within ≡ false) →
-    CompilesCode old new r whole
-fails_code old new (Ok x) part whole f beyond = absurd f
-fails_code old new (Err e) part whole f beyond = λ large. beyond (f large)
 
 -- how many symbols there are after a piece
 pub symbols_after : (old one : Code) (c : Formed Code) (next : ℕ) → CompilesCode old one (Ok tt) c →
@@ -91,28 +60,30 @@ for_is (s ∷ ss) e u t at next =
     same
 
 -- the loop after the first part
-pub for_compiled : (s : Stmt) (first : List Stmt) (test : Option Expr) (change : Option Stmt)
+pub for_compiled : (integers : Integers) (s : Stmt) (first : List Stmt) (test : Option Expr)
+    (change : Option Stmt)
     (inner : Stmt) (old one new : Code) (p : Places) (h : Point)
     (result : Result (Unit {0}) PolyEnd)
-    → s ≡ For first test change inner → CompilesHead old one (Ok h) (head_at first p old)
-    → CompilesCode one new result (loop_code (expr_code (test_or_one test))
-    (option_map stmt_code change) (stmt_code inner) h (as_places p) (length one.opened))
-    → CompilesCode old new result (stmt_at s p old)
-for_compiled s first test change inner old one new p h result is begun compiled =
+    → s ≡ For first test change inner → CompilesHead old one (Ok h) (head_at integers first p old)
+    → CompilesCode one new result (loop_code (expr_code integers (test_or_one test))
+    (option_map (stmt_code integers) change) (stmt_code integers inner) h (as_places p)
+    (length one.opened))
+    → CompilesCode old new result (stmt_at integers s p old)
+for_compiled integers s first test change inner old one new p h result is begun compiled =
     let n = length old.opened in
-    let e = expr_code (test_or_one test) in
-    let u = option_map stmt_code change in
-    let t = stmt_code inner in
-    let x = head_at first p old in
+    let e = expr_code integers (test_or_one test) in
+    let u = option_map (stmt_code integers) change in
+    let t = stmt_code integers inner in
+    let x = head_at integers first p old in
     let rest = loop_code e u t x.at (as_places p) (after n x.code) in
     let count : length one.opened ≡ after n x.code = ap (λ (c : Code). length c.opened) begun.0 ∙
     opened-append old x.code in
     let moves : loop_code e u t h (as_places p) (length one.opened) ≡ rest = λ i.
     loop_code e u t (begun.1 i) (as_places p) (count i) in
-    let whole : stmt_at s p old ≡ followed (headed x) rest =
-    ap (λ (v : Stmt). stmt_at v p old) is ∙ ap (λ (c : Compiled). c.code (as_places p) n)
-    (code-For first test change inner)
-    ∙ for_is (map stmt_code first) e u t (as_places p) n in
+    let whole : stmt_at integers s p old ≡ followed (headed x) rest =
+    ap (λ (v : Stmt). stmt_at integers v p old) is ∙ ap (λ (c : Compiled). c.code (as_places p) n)
+    (code-For integers first test change inner)
+    ∙ for_is (map (stmt_code integers) first) e u t (as_places p) n in
     subst (λ (c : Formed Code). CompilesCode old new result c) (sym whole)
     (then old one new (headed x) rest result (begun.0, begun.2)
     (subst (λ (c : Formed Code). CompilesCode one new result c) moves compiled))
@@ -161,28 +132,29 @@ module _ (e : Asked) (u t : Compiled) (h : Point) (at : table.Places) (next : �
 
 -- what is known after the points of a turn: the test, and after it the body, and after that the
 -- change are those of the turn
-module _ (test : Option Expr) (change inner : Stmt) (one two : Code) (p : Places) (h y1 k1 : Point)
+module _ (integers : Integers) (test : Option Expr) (change inner : Stmt) (one two : Code)
+    (p : Places) (h y1 k1 : Point)
     (marked : CompilesTurn one two (Ok (y1, k1)) h) where
   abbrev e : Asked
-  e = expr_code (test_or_one test)
+  e = expr_code integers (test_or_one test)
 
   abbrev n : ℕ
   n = length one.opened
 
   abbrev the_tests : Formed Code
-  the_tests = tests e (stmt_code change) (stmt_code inner) h (as_places p) n
+  the_tests = tests e (stmt_code integers change) (stmt_code integers inner) h (as_places p) n
 
   abbrev the_body : Formed Code
-  the_body = body e (stmt_code change) (stmt_code inner) h (as_places p) n
+  the_body = body e (stmt_code integers change) (stmt_code integers inner) h (as_places p) n
 
   abbrev the_changes : Formed Code
-  the_changes = changes e (stmt_code change) (stmt_code inner) h (as_places p) n
+  the_changes = changes e (stmt_code integers change) (stmt_code integers inner) h (as_places p) n
 
   abbrev the_points : Formed Code
-  the_points = points e (stmt_code change) (stmt_code inner) h (as_places p) n
+  the_points = points e (stmt_code integers change) (stmt_code integers inner) h (as_places p) n
 
   turn : Formed Code
-  turn = change_turn_code e (stmt_code change) (stmt_code inner) h (as_places p) n
+  turn = change_turn_code e (stmt_code integers change) (stmt_code integers inner) h (as_places p) n
 
   two_more : (m : ℕ) → m + 2 ≡ m + 2
   two_more m = refl
@@ -190,30 +162,32 @@ module _ (test : Option Expr) (change inner : Stmt) (one two : Code) (p : Places
   counted : length two.opened ≡ n + 2
   counted = ap (λ (c : Code). length c.opened) marked.0 ∙ opened-append one the_points.form
 
-  tests_are : condition_at (test_or_one test) h y1 p.to two ≡ the_tests
+  tests_are : condition_at integers (test_or_one test) h y1 p.to two ≡ the_tests
   tests_are i = e.condition h (marked.1 i) p.to (counted i)
 
   -- from there on
   from_points : (new : Code) (result : Result (Unit {0}) PolyEnd) →
       CompilesCode two new result (followed the_tests (followed the_body the_changes))
-      → CompilesCode one new result (change_turn_code e (stmt_code change) (stmt_code inner) h
+      → CompilesCode one new result (change_turn_code e (stmt_code integers change)
+      (stmt_code integers inner) h
       (as_places p) n)
   from_points new result compiled =
       subst (λ (c : Formed Code). CompilesCode one new result c)
-      (sym (turn_is e (stmt_code change) (stmt_code inner) h (as_places p) n))
+      (sym (turn_is e (stmt_code integers change) (stmt_code integers inner) h (as_places p) n))
       (then one two new the_points (followed the_tests (followed the_body the_changes)) result
       (marked.0, marked.3) compiled)
 
   pub test_fails : (new : Code) (r : PolyEnd) →
-      CompilesCode two new (Err r) (condition_at (test_or_one test) h y1 p.to two)
-      → CompilesCode one new (Err r) (change_turn_code e (stmt_code change) (stmt_code inner) h
+      CompilesCode two new (Err r) (condition_at integers (test_or_one test) h y1 p.to two)
+      → CompilesCode one new (Err r) (change_turn_code e (stmt_code integers change)
+      (stmt_code integers inner) h
       (as_places p) n)
   test_fails new r compiled =
       from_points new (Err r) (failed two new the_tests (followed the_body the_changes) r
       (λ large. sym (ap (λ (c : Formed Code). c.within) tests_are) ∙ compiled large))
 
   module _ (three : Code) (tested : CompilesCode two three (Ok tt)
-      (condition_at (test_or_one test) h y1 p.to two)) where
+      (condition_at integers (test_or_one test) h y1 p.to two)) where
     tested_so : CompilesCode two three (Ok tt) the_tests
     tested_so = subst (λ (c : Formed Code). CompilesCode two three (Ok tt) c) tests_are tested
 
@@ -223,9 +197,9 @@ module _ (test : Option Expr) (change inner : Stmt) (one two : Code) (p : Places
     counted_three : length three.opened ≡ after (n + 2) the_tests.form
     counted_three = symbols_after two three the_tests (n + 2) tested_so counted
 
-    body_is : stmt_at inner in_turn three ≡ the_body
+    body_is : stmt_at integers inner in_turn three ≡ the_body
     body_is i =
-        (stmt_code inner).code (record {
+        (stmt_code integers inner).code (record {
           at = marked.1 i;
           to = marked.2 i;
           break_to = p.to;
@@ -233,8 +207,9 @@ module _ (test : Option Expr) (change inner : Stmt) (one two : Code) (p : Places
         }) (counted_three i)
 
     pub body_fails : (new : Code) (r : PolyEnd) →
-        CompilesCode three new (Err r) (stmt_at inner in_turn three)
-        → CompilesCode one new (Err r) (change_turn_code e (stmt_code change) (stmt_code inner) h
+        CompilesCode three new (Err r) (stmt_at integers inner in_turn three)
+        → CompilesCode one new (Err r) (change_turn_code e (stmt_code integers change)
+        (stmt_code integers inner) h
         (as_places p) n)
     body_fails new r compiled =
         from_points new (Err r) (then two three new the_tests (followed the_body the_changes)
@@ -243,10 +218,11 @@ module _ (test : Option Expr) (change inner : Stmt) (one two : Code) (p : Places
         (λ large. sym (ap (λ (c : Formed Code). c.within) body_is) ∙ compiled large)))
 
     pub turned : (four new : Code) (result : Result (Unit {0}) PolyEnd) →
-        CompilesCode three four (Ok tt) (stmt_at inner in_turn three)
-        → CompilesCode four new result (stmt_at change
+        CompilesCode three four (Ok tt) (stmt_at integers inner in_turn three)
+        → CompilesCode four new result (stmt_at integers change
         (record { at = k1; to = h; break_to = p.break_to; continue_to = p.continue_to }) four)
-        → CompilesCode one new result (change_turn_code e (stmt_code change) (stmt_code inner) h
+        → CompilesCode one new result (change_turn_code e (stmt_code integers change)
+        (stmt_code integers inner) h
         (as_places p) n)
     turned four new result bodied compiled =
         let bodied_so : CompilesCode three four (Ok tt) the_body =
@@ -254,10 +230,10 @@ module _ (test : Option Expr) (change inner : Stmt) (one two : Code) (p : Places
         let count : length four.opened ≡ after (after (n + 2) the_tests.form) the_body.form =
         symbols_after three four the_body (after (n + 2) the_tests.form) bodied_so counted_three
         in
-        let changes_are : stmt_at change (record
+        let changes_are : stmt_at integers change (record
         { at = k1; to = h; break_to = p.break_to; continue_to = p.continue_to }) four ≡
         the_changes =
-        λ i. (stmt_code change).code (record {
+        λ i. (stmt_code integers change).code (record {
           at = marked.2 i;
           to = h;
           break_to = p.break_to;
@@ -270,18 +246,19 @@ module _ (test : Option Expr) (change inner : Stmt) (one two : Code) (p : Places
 
 -- ---- `if` with `else`
 
-pub if_else_compiled : (s : Stmt) (test : Expr) (inner other : Stmt)
+pub if_else_compiled : (integers : Integers) (s : Stmt) (test : Expr) (inner other : Stmt)
     (old one two three four new : Code) (p : Places) (y1 w1 : Point)
     (result : Result (Unit {0}) PolyEnd)
     → s ≡ If test inner (Some other) → IsOpened old one y1 p.at.width →
     IsOpened one two w1 p.at.width
-    → CompilesCode two three (Ok tt) (condition_at test p.at y1 w1 two)
-    → CompilesCode three four (Ok tt) (stmt_at inner
+    → CompilesCode two three (Ok tt) (condition_at integers test p.at y1 w1 two)
+    → CompilesCode three four (Ok tt) (stmt_at integers inner
     (record { at = y1; to = p.to; break_to = p.break_to; continue_to = p.continue_to }) three)
-    → CompilesCode four new result (stmt_at other
+    → CompilesCode four new result (stmt_at integers other
     (record { at = w1; to = p.to; break_to = p.break_to; continue_to = p.continue_to }) four)
-    → CompilesCode old new result (stmt_at s p old)
-if_else_compiled s test inner other old one two three four new p y1 w1 result is opened_y opened_w
+    → CompilesCode old new result (stmt_at integers s p old)
+if_else_compiled integers s test inner other old one two three four new p y1 w1 result is opened_y
+    opened_w
     tested first second =
     let n = length old.opened in
     let width = p.at.width in
@@ -293,14 +270,14 @@ if_else_compiled s test inner other old one two three four new p y1 w1 result is
       within =
           is_room n width && is_room (n + 1) width;
     } in
-    let c = (expr_code test).condition p.at y0 w0 (n + 2) in
-    let d = (stmt_code inner).code (record {
+    let c = (expr_code integers test).condition p.at y0 w0 (n + 2) in
+    let d = (stmt_code integers inner).code (record {
       at = y0;
       to = p.to;
       break_to = p.break_to;
       continue_to = p.continue_to;
     }) (after (n + 2) c.form) in
-    let f = (stmt_code other).code (record {
+    let f = (stmt_code integers other).code (record {
       at = w0;
       to = p.to;
       break_to = p.break_to;
@@ -315,19 +292,19 @@ if_else_compiled s test inner other old one two three four new p y1 w1 result is
       and_from (is_room n width) (is_room (n + 1) width) opened_y.room
           (sym (ap (λ k. is_room k width) count_one) ∙ opened_w.room),
     ) in
-    let c_same : condition_at test p.at y1 w1 two ≡ c = λ i.
-    (expr_code test).condition p.at (opened_y.is i) (w_is i) (count_two i) in
+    let c_same : condition_at integers test p.at y1 w1 two ≡ c = λ i.
+    (expr_code integers test).condition p.at (opened_y.is i) (w_is i) (count_two i) in
     let tested_so : CompilesCode two three (Ok tt) c =
     subst (λ (x : Formed Code). CompilesCode two three (Ok tt) x) c_same tested in
     let count_three = symbols_after two three c (n + 2) tested_so count_two in
-    let d_same : stmt_at inner (record {
+    let d_same : stmt_at integers inner (record {
       at = y1;
       to = p.to;
       break_to = p.break_to;
       continue_to =
           p.continue_to;
     }) three ≡ d =
-    λ i. (stmt_code inner).code (record {
+    λ i. (stmt_code integers inner).code (record {
       at = opened_y.is i;
       to = p.to;
       break_to = p.break_to;
@@ -336,22 +313,22 @@ if_else_compiled s test inner other old one two three four new p y1 w1 result is
     let first_so : CompilesCode three four (Ok tt) d =
     subst (λ (x : Formed Code). CompilesCode three four (Ok tt) x) d_same first in
     let count_four = symbols_after three four d (after (n + 2) c.form) first_so count_three in
-    let f_same : stmt_at other (record {
+    let f_same : stmt_at integers other (record {
       at = w1;
       to = p.to;
       break_to = p.break_to;
       continue_to =
           p.continue_to;
     }) four ≡ f =
-    λ i. (stmt_code other).code (record {
+    λ i. (stmt_code integers other).code (record {
       at = w_is i;
       to = p.to;
       break_to = p.break_to;
       continue_to = p.continue_to;
     }) (count_four i) in
-    let whole : stmt_at s p old ≡ followed rooms (followed c (followed d f)) =
-    ap (λ (v : Stmt). stmt_at v p old) is ∙ ap (λ (v : Compiled). v.code (as_places p) n)
-    (code-If test inner (Some other))
+    let whole : stmt_at integers s p old ≡ followed rooms (followed c (followed d f)) =
+    ap (λ (v : Stmt). stmt_at integers v p old) is ∙ ap (λ (v : Compiled). v.code (as_places p) n)
+    (code-If integers test inner (Some other))
     ∙ (λ i. record {
       form = append_code rooms.form (append_code c.form (append_code d.form f.form));
       within = sym (and_assoc (is_room n width) (is_room (n + 1) width)

@@ -3,6 +3,7 @@ use Rattle.std.specs.Prelude.{◌≡◌, ℕ, ◌+◌, Bool, true, false, ◌&&�
 use Rattle.rx_plain.specs.Formed.{Formed}
 use Rattle.rx_poly.specs.declared.poly_end.PolyEnd.{PolyEnd}
 use Rattle.rx_poly.specs.declared.poly_end.PolyEnd.TheVariants.{Large}
+use Rattle.c_ast.specs.declared.integers.Integers.{Integers}
 use Rattle.c_ast.specs.declared.stmt.Stmt.{Stmt}
 use Rattle.rx_code.specs.Pieces.{a_point, append_code, is_room, marks_head, no_code, opens, point}
 use Rattle.rx_code.specs.Statements as table
@@ -15,20 +16,21 @@ use Rattle.rx_stmts.specs.declared.places.Places.{Places}
 abbrev pub as_places : Places → table.Places
 as_places p = record { at = p.at; to = p.to; break_to = p.break_to; continue_to = p.continue_to }
 
--- a statement
-abbrev pub stmt_at : Stmt → Places → Code → Formed Code
-stmt_at t p code = (stmt_code t).code (as_places p) (length code.opened)
+module _ (integers : Integers) where
+  -- a statement
+  abbrev pub stmt_at : Stmt → Places → Code → Formed Code
+  stmt_at t p code = (stmt_code integers t).code (as_places p) (length code.opened)
 
--- a list of statements
-abbrev pub list_at : List Stmt → Places → Code → Formed Code
-list_at ts p code = list_code (map stmt_code ts) (as_places p) (length code.opened)
+  -- a list of statements
+  abbrev pub list_at : List Stmt → Places → Code → Formed Code
+  list_at ts p code = list_code (map (stmt_code integers) ts) (as_places p) (length code.opened)
 
--- the slots in scope after a statement, and after several
-abbrev pub slots_after : Stmt → ℕ → ℕ
-slots_after t n = (stmt_code t).slots_after n
+  -- the slots in scope after a statement, and after several
+  abbrev pub slots_after : Stmt → ℕ → ℕ
+  slots_after t n = (stmt_code integers t).slots_after n
 
-abbrev pub slots_after_list : List Stmt → ℕ → ℕ
-slots_after_list ts n = table.slots_after_all (map stmt_code ts) n
+  abbrev pub slots_after_list : List Stmt → ℕ → ℕ
+  slots_after_list ts n = table.slots_after_all (map (stmt_code integers) ts) n
 
 -- a call opens exactly one point more, with n variables
 abbrev pub CompilesPoint : Code → Code → Result Point PolyEnd → ℕ → Type 0
@@ -67,8 +69,9 @@ head_code (s ∷ ss) at next =
           c.within;
     }
 
-abbrev pub head_at : List Stmt → Places → Code → Headed
-head_at ts p code = head_code (map stmt_code ts) (as_places p) (length code.opened)
+abbrev pub head_at : Integers → List Stmt → Places → Code → Headed
+head_at integers ts p code =
+    head_code (map (stmt_code integers) ts) (as_places p) (length code.opened)
 
 abbrev pub CompilesHead : Code → Code → Result Point PolyEnd → Headed → Type 0
 CompilesHead old new (Ok h) v = (new ≡ append_code old v.code) × (h ≡ v.at) × (v.within ≡ true)

@@ -1,4 +1,5 @@
 -- Lemmas on the table, the rule set and the goal, for the code that writes them down.
+pub mod BoundLemmas
 pub mod Elements
 pub mod Entries
 pub mod Infos

@@ -5,6 +5,7 @@ use Rattle.std.specs.List.{enumerate_from, flat_map, list_all}
 use Rattle.std.proofs.Math.Seq.{drop-cons}
 use Rattle.std.proofs.lemmas.Bool.{and_left, eq-eqb, ne_eqb}
 use Rattle.std.proofs.lemmas.List.{append-nil}
+use Rattle.c_ast.specs.declared.integers.Integers.{Integers}
 use Rattle.rx_term.specs.declared.rule.Rule.{Rule}
 use Rattle.rx_code.specs.Programs.{entry_of}
 use Rattle.rx_code.specs.Rules.{instruction_within, parts_of, rules_at, rules_of_instruction}
@@ -62,9 +63,9 @@ module _ (v : ℕ → List Rule) (xs : List Rule) where
       ap (λ (n : ℕ). numbered (with_at n) (s + 1) os) next in
       λ i. here i ∷ rest i
 
-module _ (entries : List (ℕ × ℕ)) where
+module _ (integers : Integers) (entries : List (ℕ × ℕ)) where
   abbrev rules : Instruction → List Rule
-  rules = rules_of_instruction (entry_of entries)
+  rules = rules_of_instruction integers (entry_of entries)
 
   abbrev at : ℕ → List Instruction → List Rule
   at n ds = flat_map rules (filter (λ (d : Instruction). d.at.symbol == n) ds)
@@ -86,7 +87,7 @@ module _ (entries : List (ℕ × ℕ)) where
       (filter (λ (e : Instruction). e.at.symbol == n) ds))) is)
 
   sorted_is : (os : List Opening) (v : ℕ → List Rule) (ds : List Instruction)
-      → sorted_after entries (numbered v 0 os) ds ≡ numbered (λ n. v n ++ at n ds) 0 os
+      → sorted_after integers entries (numbered v 0 os) ds ≡ numbered (λ n. v n ++ at n ds) 0 os
   sorted_is os v [] =
       ap (λ (w : ℕ → List Rule). map (λ (o : ℕ × Opening). w o.0) (enumerate_from 0 os))
       (λ i n. sym (append-nil (v n)) i)
@@ -98,7 +99,7 @@ module _ (entries : List (ℕ × ℕ)) where
       add_at-numbered v (rules d) os 0 d.at.symbol ∙
       ap (λ (k : ℕ). map (λ (o : ℕ × Opening). v o.0 ++ cond (k == o.0) (rules d) [])
       (enumerate_from 0 os)) start in
-      ap (λ ls. sorted_after entries ls ds) added ∙ sorted_is os w ds
+      ap (λ ls. sorted_after integers entries ls ds) added ∙ sorted_is os w ds
       ∙ ap (λ (u : ℕ → List Rule). map (λ (o : ℕ × Opening). u o.0) (enumerate_from 0 os))
       (λ i n. one_more (v n) n d ds (d.at.symbol == n) refl i)
 
@@ -113,31 +114,34 @@ flat_mapped v [] = refl
 flat_mapped v (x ∷ xs) = ap (λ rs. v x ++ rs) (flat_mapped v xs)
 
 -- the sorted rules, one list after another
-pub sorted_joined : (c : Code) → flat_map (λ (rs : List Rule). rs) (sorted_rules c).form ≡
-    (parts_of c).rules
-sorted_joined c =
-    ap (flat_map (λ (rs : List Rule). rs)) (ap (λ ls. sorted_after c.entries ls c.instructions)
-    (empties c.opened 0) ∙ sorted_is c.entries c.opened (λ n. []) c.instructions)
-    ∙ flat_mapped (λ (o : ℕ × Opening). rules_at c o.0) (enumerate_from 0 c.opened)
+pub sorted_joined : (integers : Integers) (c : Code) →
+    flat_map (λ (rs : List Rule). rs) (sorted_rules integers c).form ≡ (parts_of integers c).rules
+sorted_joined integers c =
+    ap (flat_map (λ (rs : List Rule). rs)) (ap
+    (λ ls. sorted_after integers c.entries ls c.instructions)
+    (empties c.opened 0) ∙ sorted_is integers c.entries c.opened (λ n. []) c.instructions)
+    ∙ flat_mapped (λ (o : ℕ × Opening). rules_at integers c o.0) (enumerate_from 0 c.opened)
 
 -- ---- instruction by instruction
 
-pub record Sorting (entries : List (ℕ × ℕ)) (old now : List (List Rule))
+pub record Sorting (integers : Integers) (entries : List (ℕ × ℕ)) (old now : List (List Rule))
     (rest whole : List Instruction) :
     Type 0 where
-  pub made : sorted_after entries now rest ≡ sorted_after entries old whole
+  pub made : sorted_after integers entries now rest ≡ sorted_after integers entries old whole
   pub within : list_all instruction_within rest ≡ list_all instruction_within whole
 
-pub begin : (entries : List (ℕ × ℕ)) (old : List (List Rule)) (ds : List Instruction) →
-    Sorting entries old old (drop 0 ds) ds
-begin entries old ds = record { made = refl; within = refl }
+pub begin : (integers : Integers) (entries : List (ℕ × ℕ)) (old : List (List Rule))
+    (ds : List Instruction) →
+    Sorting integers entries old old (drop 0 ds) ds
+begin integers entries old ds = record { made = refl; within = refl }
 
-module _ {entries : List (ℕ × ℕ)} {old now : List (List Rule)} (ds : List Instruction) (k : ℕ)
-    {d : Instruction}
-    (h : k < length ds) (is : d ≡ get_or ds k d) (s : Sorting entries old now (drop k ds) ds) where
-  opened : Sorting entries old now (d ∷ drop (suc k) ds) ds
+module _ {integers : Integers} {entries : List (ℕ × ℕ)} {old now : List (List Rule)}
+    (ds : List Instruction) (k : ℕ) {d : Instruction}
+    (h : k < length ds) (is : d ≡ get_or ds k d)
+    (s : Sorting integers entries old now (drop k ds) ds) where
+  opened : Sorting integers entries old now (d ∷ drop (suc k) ds) ds
   opened =
-      subst (λ rest. Sorting entries old now rest ds)
+      subst (λ rest. Sorting integers entries old now rest ds)
       (drop-cons ds k d h ∙ ap (λ x. x ∷ drop (suc k) ds) (sym is)) s
 
   pub none : instruction_within d ≡ false → list_all instruction_within ds ≡ false
@@ -146,20 +150,22 @@ module _ {entries : List (ℕ × ℕ)} {old now : List (List Rule)} (ds : List I
       (list_all instruction_within (drop (suc k) ds)) large
 
   pub next : (new : List (List Rule)) → new ≡
-      add_at now d.at.symbol (rules_of_instruction (entry_of entries) d) → instruction_within d ≡
+      add_at now d.at.symbol (rules_of_instruction integers (entry_of entries) d) →
+      instruction_within d ≡
       true →
-      Sorting entries old new (drop (k + 1) ds) ds
+      Sorting integers entries old new (drop (k + 1) ds) ds
   next new is_new kept =
-      subst (λ j. Sorting entries old new (drop j ds) ds) (sym (add-one k)) (record {
-        made = ap (λ ls. sorted_after entries ls (drop (suc k) ds)) is_new ∙ opened.made;
+      subst (λ j. Sorting integers entries old new (drop j ds) ds) (sym (add-one k)) (record {
+        made = ap (λ ls. sorted_after integers entries ls (drop (suc k) ds)) is_new ∙ opened.made;
         within = sym (ap (λ b. b && list_all instruction_within (drop (suc k) ds)) kept) ∙
             opened.within;
       })
 
-pub finished : (entries : List (ℕ × ℕ)) (old now : List (List Rule)) (ds : List Instruction) (k : ℕ)
+pub finished : (integers : Integers) (entries : List (ℕ × ℕ)) (old now : List (List Rule))
+    (ds : List Instruction) (k : ℕ)
     →
-    length ds ≤ k → Sorting entries old now (drop k ds) ds
-    → (now ≡ sorted_after entries old ds) × (list_all instruction_within ds ≡ true)
-finished entries old now ds k h s =
-    let all = subst (λ rest. Sorting entries old now rest ds) (drop_of_length-le ds h) s in
+    length ds ≤ k → Sorting integers entries old now (drop k ds) ds
+    → (now ≡ sorted_after integers entries old ds) × (list_all instruction_within ds ≡ true)
+finished integers entries old now ds k h s =
+    let all = subst (λ rest. Sorting integers entries old now rest ds) (drop_of_length-le ds h) s in
     (all.made, sym all.within)

@@ -5,6 +5,7 @@ use Rattle.std.specs.List.{list_all}
 use Rattle.std.proofs.lemmas.Bool.{and_left, and_right}
 use Rattle.std.proofs.lemmas.Option.{same_Some}
 use Rattle.rx_plain.specs.Formed.{Formed}
+use Rattle.c_ast.specs.declared.integers.Integers.{Integers}
 use Rattle.c_ast.specs.Scoped.{is_scoped}
 use Rattle.c_ast.specs.declared.program.Function.{Function}
 use Rattle.c_ast.specs.declared.program.Resolved.{Resolved}
@@ -21,65 +22,72 @@ use Rattle.rx_translate.specs.Arity.{AritiesDiffer, HasParameters}
 use Rattle.rx_translate.specs.Parts.{parts_formed}
 use Rattle.rx_translate.proofs.Walks.{function_read}
 
-module _ (program : Resolved) (f g : ℕ) (fs : List ℕ) (reached : AreReached program f g fs) where
+module _ (integers : Integers) (program : Resolved) (f g : ℕ) (fs : List ℕ)
+    (reached : AreReached program f g fs) where
   -- the code is too large
-  pub code_beyond : (places_code program.functions fs 0).within ≡ false → IsBeyond program f g
+  pub code_beyond : (places_code integers program.functions fs 0).within ≡ false →
+      IsBeyond integers program f g
   code_beyond large = record {
     functions = fs;
     reached = reached;
     beyond =
-        and_left (program_code program fs).within
-        (list_all instruction_within (program_code program fs).form.instructions) large;
+        and_left (program_code integers program fs).within
+        (list_all instruction_within (program_code integers program fs).form.instructions) large;
   }
 
-  module _ (c : Code) (compiled : (c ≡ (places_code program.functions fs 0).form) ×
-      ((places_code program.functions fs 0).within ≡ true)) where
+  module _ (c : Code) (compiled : (c ≡ (places_code integers program.functions fs 0).form) ×
+      ((places_code integers program.functions fs 0).within ≡ true)) where
     -- or something that is formed for the rules
-    pub parts_beyond : (parts_formed c).within ≡ false → IsBeyond program f g
+    pub parts_beyond : (parts_formed integers c).within ≡ false → IsBeyond integers program f g
     parts_beyond large = record {
       functions = fs;
       reached = reached;
       beyond =
-          and_right (program_code program fs).within
-          (list_all instruction_within (program_code program fs).form.instructions)
+          and_right (program_code integers program fs).within
+          (list_all instruction_within (program_code integers program fs).form.instructions)
           (ap (λ (d : Code). list_all instruction_within d.instructions) (sym compiled.0) ∙ large);
     }
 
     module _ (first_there : f < length program.functions)
         (second_there : g < length program.functions) (parts : RuleParts)
-        (formed : (parts ≡ (parts_formed c).form) × ((parts_formed c).within ≡ true)) where
+        (formed : (parts ≡ (parts_formed integers c).form) ×
+        ((parts_formed integers c).within ≡ true)) where
       pub is_translation : (n m : ℕ) → n ≡ entry_of c.entries f → m ≡ entry_of c.entries g →
-          IsTranslation program f g parts (symbol n) (symbol m)
+          IsTranslation integers program f g parts (symbol n) (symbol m)
       is_translation n m first_is second_is = record {
         first_there = first_there;
         second_there = second_there;
         functions = fs;
         reached = reached;
         within =
-            ap (λ b. b && list_all instruction_within (program_code program fs).form.instructions)
+            ap (λ b. b &&
+            list_all instruction_within (program_code integers program fs).form.instructions)
             compiled.1 ∙
             ap (λ (d : Code). list_all instruction_within d.instructions) (sym compiled.0) ∙
             formed.1;
-        parts_are = formed.0 ∙ ap parts_of compiled.0;
+        parts_are = formed.0 ∙ ap (parts_of integers) compiled.0;
         first_is = ap symbol (first_is ∙ ap (λ (d : Code). entry_of d.entries f) compiled.0);
         second_is = ap symbol (second_is ∙ ap (λ (d : Code). entry_of d.entries g) compiled.0);
       }
 
       pub parts_made : is_scoped program ≡ true → IsWellMade parts
       parts_made scoped =
-          translation_made program scoped f g parts (symbol (entry_of c.entries f))
+          translation_made integers program scoped f g parts (symbol (entry_of c.entries f))
           (symbol (entry_of c.entries g))
           (is_translation (entry_of c.entries f) (entry_of c.entries g) refl refl)
 
 -- the code is that of the functions and the places that are borrowed
-pub compiled_is : (functions program_functions : List Function) (lent fs : List ℕ) (c : Code) →
+pub compiled_is : (integers : Integers) (functions program_functions : List Function)
+    (lent fs : List ℕ) (c : Code) →
     functions ≡ program_functions → lent ≡ fs
-    → (c ≡ (places_code functions lent 0).form) × ((places_code functions lent 0).within ≡ true) →
-    (c ≡ (places_code program_functions fs 0).form) ×
-    ((places_code program_functions fs 0).within ≡ true)
-compiled_is functions program_functions lent fs c same also compiled =
-    let is : places_code functions lent 0 ≡ places_code program_functions fs 0 = λ i.
-    places_code (same i) (also i) 0 in (
+    → (c ≡ (places_code integers functions lent 0).form) ×
+    ((places_code integers functions lent 0).within ≡ true) →
+    (c ≡ (places_code integers program_functions fs 0).form) ×
+    ((places_code integers program_functions fs 0).within ≡ true)
+compiled_is integers functions program_functions lent fs c same also compiled =
+    let is : places_code integers functions lent 0 ≡
+    places_code integers program_functions fs 0 = λ i.
+    places_code integers (same i) (also i) 0 in (
       compiled.0 ∙ ap (λ (d : Formed Code). d.form) is,
       sym (ap (λ (d : Formed Code). d.within) is) ∙
           compiled.1,

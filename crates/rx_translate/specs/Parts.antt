@@ -2,6 +2,7 @@
 -- symbols.
 use Rattle.std.specs.Prelude.{Bool, ℕ, zero, suc, List, [], ◌∷◌, ◌++◌, length, replicate}
 use Rattle.std.specs.List.{list_all}
+use Rattle.c_ast.specs.declared.integers.Integers.{Integers}
 use Rattle.rx_plain.specs.Formed.{Formed}
 use Rattle.rx_term.specs.declared.rule.Rule.{Rule}
 use Rattle.rx_term.specs.declared.rule_set.RuleParts.{RuleParts}
@@ -27,19 +28,22 @@ add_at [] k xs = []
 add_at (ys ∷ yss) zero xs = (ys ++ xs) ∷ yss
 add_at (ys ∷ yss) (suc k) xs = ys ∷ add_at yss k xs
 
--- the lists with the rules of each instruction added at its symbol
-abbrev pub sorted_after : List (ℕ × ℕ) → List (List Rule) → List Instruction → List (List Rule)
-sorted_after entries lists [] = lists
-sorted_after entries lists (d ∷ ds) =
-    sorted_after entries (add_at lists d.at.symbol (rules_of_instruction (entry_of entries) d)) ds
+module _ (integers : Integers) where
+  -- the lists with the rules of each instruction added at its symbol
+  abbrev pub sorted_after : List (ℕ × ℕ) → List (List Rule) → List Instruction → List (List Rule)
+  sorted_after entries lists [] = lists
+  sorted_after entries lists (d ∷ ds) =
+      let rules = rules_of_instruction integers (entry_of entries) d in
+      sorted_after entries (add_at lists d.at.symbol rules) ds
 
--- the rules of code by their symbols, and whether all that is formed for them keeps the limits
-abbrev pub sorted_rules : Code → Formed (List (List Rule))
-sorted_rules c = record {
-  form = sorted_after c.entries (replicate (length c.opened) []) c.instructions;
-  within = list_all instruction_within c.instructions;
-}
+  -- the rules of code by their symbols, and whether all that is formed for them keeps the limits
+  abbrev pub sorted_rules : Code → Formed (List (List Rule))
+  sorted_rules c = record {
+    form = sorted_after c.entries (replicate (length c.opened) []) c.instructions;
+    within = list_all instruction_within c.instructions;
+  }
 
--- the rule set of code, and whether all that is formed for it keeps the limits
-abbrev pub parts_formed : Code → Formed RuleParts
-parts_formed c = record { form = parts_of c; within = list_all instruction_within c.instructions }
+  -- the rule set of code, and whether all that is formed for it keeps the limits
+  abbrev pub parts_formed : Code → Formed RuleParts
+  parts_formed c =
+      record { form = parts_of integers c; within = list_all instruction_within c.instructions }

@@ -2,6 +2,7 @@
 //! precondition, and the goal of two symbols: what the table of rx_code says, written down.
 #![tactic(auto)]
 
+mod bounding;
 mod goal;
 mod marks;
 mod parts;
@@ -11,6 +12,7 @@ mod rules;
 mod translate_end;
 mod translation;
 
+pub use bounding::bounds;
 pub use goal::goal_of;
 pub use parts::parts_of;
 pub use preconditions::rows_of_pre;

@@ -7,7 +7,8 @@ ghost use Rattle.rx_translate.specs.Parts.{add_at, info_of, infos_of, parts_form
 ghost use Rattle.rx_translate.specs.Rules.{rules_after};
 
 use crate::marks::{marks_of, marks_of_second};
-use crate::rules::push_rules;
+use crate::rules::{number_of_failures, push_rules};
+use c_ast::Integers;
 use rx_code::{Code, Instruction, Opening};
 use rx_plain::Items;
 use rx_poly::PolyEnd;
@@ -69,13 +70,14 @@ fn empty_lists(alloc: Global, count: usize) -> Result<Vec<Items<Rule>>, AllocErr
 /// The rules of an instruction. Large exactly where `push_rules` is.
 fn rules_of_instruction(
     alloc: Global,
+    integers: Integers,
     entries: &[(u32, u32)],
     d: &Instruction,
 ) -> Result<Items<Rule>, PolyEnd>
-    ensures forms { Forms PolyEnd.Large result (rules_after entries.now [] d.now) }
+    ensures forms { Forms PolyEnd.Large result (rules_after integers entries.now [] d.now) }
 {
     let mut rules = Items::new(alloc);
-    push_rules(alloc, &mut rules, entries, d)?;
+    push_rules(alloc, integers, &mut rules, entries, d)?;
     Ok(rules)
 }
 
@@ -91,12 +93,13 @@ fn add(lists: &mut Vec<Items<Rule>>, symbol: u32, rules: Items<Rule>) -> Result<
 
 /// The rules of code by their symbols. Large exactly where `push_rules` is for something that is
 /// done in the code.
-fn sorted_rules(alloc: Global, code: &Code) -> Result<Vec<Items<Rule>>, PolyEnd>
-    ensures forms { FormsAs (λ lists. lists.items) PolyEnd.Large result (sorted_rules code.now) }
+fn sorted_rules(alloc: Global, integers: Integers, code: &Code) -> Result<Vec<Items<Rule>>, PolyEnd>
+    ensures forms { FormsAs (λ lists. lists.items) PolyEnd.Large result
+        (sorted_rules integers code.now) }
 {
     let mut lists = empty_lists(alloc, code.opened.len())?;
     for d in code.instructions.as_slice() {
-        let rules = rules_of_instruction(alloc, code.entries.as_slice(), d)?;
+        let rules = rules_of_instruction(alloc, integers, code.entries.as_slice(), d)?;
         add(&mut lists, d.at.symbol, rules)?;
     }
     Ok(lists)
@@ -113,17 +116,18 @@ fn joined(alloc: Global, lists: Vec<Items<Rule>>) -> Result<Items<Rule>, AllocEr
     Ok(rules)
 }
 
-/// The rule set of code: its symbols, and the rules symbol by symbol. Large exactly where the
+/// The rule set of code, by the kind of integers: its symbols, the rules symbol by symbol, and how
+/// many failures there are. Large exactly where the
 /// negation of a row, or the result of a division, passes the limits. The time is linear in the
 /// rules, but for the entry of each call.
-pub fn parts_of(alloc: Global, code: &Code) -> Result<RuleParts, PolyEnd>
-    ensures forms { Forms PolyEnd.Large result (parts_formed code.now) }
+pub fn parts_of(alloc: Global, integers: Integers, code: &Code) -> Result<RuleParts, PolyEnd>
+    ensures forms { Forms PolyEnd.Large result (parts_formed integers code.now) }
 {
-    let rules = joined(alloc, sorted_rules(alloc, code)?)?;
+    let rules = joined(alloc, sorted_rules(alloc, integers, code)?)?;
     Ok(RuleParts {
         symbols: symbols_of(alloc, code)?,
         domains: Items::new(alloc),
         rules,
-        fails: 1,
+        fails: number_of_failures(integers),
     })
 }

@@ -1,12 +1,15 @@
 //! The rules of what is done at a symbol.
-ghost use Rattle.std.specs.Prelude.{◌≡◌, ◌++◌, OnOk, IfOk, [], ◌∷◌};
+ghost use Rattle.std.specs.Prelude.{◌≡◌, ◌++◌, OnOk, IfOk, [], ◌∷◌, length, map};
+ghost use Rattle.c_ast.specs.declared.integers.Integers.TheVariants.{Unbounded};
 ghost use Rattle.rx_plain.specs.Formed.{FormsAs, Forms};
 ghost use Rattle.rx_code.specs.Points.{with_element};
 ghost use Rattle.rx_code.specs.Programs as table;
 ghost use Rattle.rx_code.specs.Rules as spec;
+ghost use Rattle.rx_term.specs.declared.term.Term.TheVariants as term;
 ghost use Rattle.rx_translate.specs.Rules.{action_after, divided_formed, rules_after};
 
 use crate::goal::first_variables;
+use c_ast::Integers;
 use rx_code::{Action, Division, Instruction, Point};
 use rx_plain::{Boxed, Items};
 use rx_poly::{Poly, PolyEnd};
@@ -114,13 +117,34 @@ fn push_test(
     w: Point,
 ) -> Result<(), PolyEnd>
     ensures forms { FormsAs (λ _. rules.new) PolyEnd.Large result
-        (action_after rules.old (λ f. f) a (Action.Test row.now y w)) }
+        (action_after Unbounded rules.old (λ f. f) a (Action.Test row.now y w)) }
 {
     let negated = row.negate(alloc)?;
     let yes = jump(y, first_variables(alloc, a.width)?);
     rules.push(where_holds(alloc, row.try_clone(alloc)?, call_of(alloc, a)?, yes)?)?;
     let no = jump(w, first_variables(alloc, a.width)?);
     rules.push(where_holds(alloc, negated, call_of(alloc, a)?, no)?)?;
+    Ok(())
+}
+
+/// The failure of a result out of range where the row holds, and on where it doesn't.
+// These rules are the same by either kind of integers, which only what is handed on at a frame
+// depends on.
+fn push_exclusion(
+    alloc: Global,
+    rules: &mut Items<Rule>,
+    a: Point,
+    row: &Row,
+    z: Point,
+) -> Result<(), PolyEnd>
+    ensures forms { FormsAs (λ _. rules.new) PolyEnd.Large result
+        (action_after Unbounded rules.old (λ f. f) a (Action.Exclude row.now z)) }
+{
+    let negated = row.negate(alloc)?;
+    let outside = row.try_clone(alloc)?;
+    rules.push(where_holds(alloc, outside, call_of(alloc, a)?, Term::Fail(2))?)?;
+    let on = jump(z, first_variables(alloc, a.width)?);
+    rules.push(where_holds(alloc, negated, call_of(alloc, a)?, on)?)?;
     Ok(())
 }
 
@@ -135,7 +159,7 @@ fn push_division(
     b: Point,
 ) -> Result<(), PolyEnd>
     ensures forms { FormsAs (λ _. rules.new) PolyEnd.Large result
-        (action_after rules.old (λ f. f) a (Action.Divide way left.now right.now b)) }
+        (action_after Unbounded rules.old (λ f. f) a (Action.Divide way left.now right.now b)) }
 {
     let mut args = first_variables(alloc, a.width)?;
     args.push(divided(alloc, way, left, right)?)?;
@@ -156,7 +180,7 @@ fn push_call(
     r: Point,
 ) -> Result<(), AllocError>
     ensures { OnOk result (rules.new ≡ rules.old ++
-        spec.rules_of_action (λ f. entry) a (Action.Call 0 args.now r)) }
+        spec.rules_of_action Unbounded (λ f. entry) a (Action.Call 0 args.now r)) }
 {
     let mut copies = Items::new(alloc);
     for arg in args.as_slice() {
@@ -169,50 +193,131 @@ fn push_call(
     rules.push(always(alloc, left, Term::Frame(Sym(r.symbol), kept, inner)))
 }
 
-/// At a frame: what is returned is one variable more of a point, and a failure stays one.
-fn push_resume(alloc: Global, rules: &mut Items<Rule>, a: Point, b: Point) -> Result<(), AllocError>
-    ensures { OnOk result (rules.new ≡ rules.old ++
-        spec.rules_of_action (λ f. f) a (Action.Resume b)) }
+/// How many failures there are: 1, and of 32-bit integers 2.
+pub(crate) fn number_of_failures(integers: Integers) -> u8
+    ensures { result ≡ length (spec.failure_codes integers) }
 {
-    let returned = Boxed::new(alloc, Term::Return(Poly::variable(alloc, a.width)?))?;
-    let over_value = Term::Frame(Sym(a.symbol), first_variables(alloc, a.width)?, returned);
-    let mut args = first_variables(alloc, a.width)?;
-    args.push(Poly::variable(alloc, a.width)?)?;
-    rules.push(always(alloc, over_value, jump(b, args)))?;
-    let failure = Boxed::new(alloc, Term::Fail(1))?;
-    let over_failure = Term::Frame(Sym(a.symbol), first_variables(alloc, a.width)?, failure);
-    rules.push(always(alloc, over_failure, Term::Fail(1)))
+    match integers {
+        Integers::Unbounded => 1,
+        Integers::Bits32 => 2,
+    }
 }
 
-/// Adds the rules of an instruction after others, where `entries` has the entry of each function.
+/// The frame at a point over a term.
+fn frame_over(alloc: Global, a: Point, inner: Term) -> Result<Term, AllocError>
+    ensures { IfOk result (λ t. t ≡
+        term.Frame (spec.symbol a.symbol) (spec.variables_of a) inner) }
+{
+    let boxed = Boxed::new(alloc, inner)?;
+    Ok(Term::Frame(Sym(a.symbol), first_variables(alloc, a.width)?, boxed))
+}
+
+/// At a frame: what is returned is one variable more of a point.
+fn over_value(alloc: Global, a: Point, b: Point) -> Result<Rule, AllocError>
+    ensures { IfOk result (λ r. r ≡ spec.over_value a b) }
+{
+    let left = frame_over(alloc, a, Term::Return(Poly::variable(alloc, a.width)?))?;
+    let mut args = first_variables(alloc, a.width)?;
+    args.push(Poly::variable(alloc, a.width)?)?;
+    Ok(always(alloc, left, jump(b, args)))
+}
+
+/// At a frame: a failure stays what it is.
+fn over_failure(alloc: Global, a: Point, code: u8) -> Result<Rule, AllocError>
+    ensures { IfOk result (λ r. r ≡ spec.over_failure a code) }
+{
+    let left = frame_over(alloc, a, Term::Fail(code))?;
+    Ok(always(alloc, left, Term::Fail(code)))
+}
+
+/// At a frame: each failure stays what it is.
+fn push_failures(
+    alloc: Global,
+    integers: Integers,
+    rules: &mut Items<Rule>,
+    a: Point,
+) -> Result<(), AllocError>
+    ensures { OnOk result (rules.new ≡
+        rules.old ++ map (spec.over_failure a) (spec.failure_codes integers)) }
+{
+    rules.push(over_failure(alloc, a, 1)?)?;
+    match integers {
+        Integers::Unbounded => Ok(()),
+        Integers::Bits32 => rules.push(over_failure(alloc, a, 2)?),
+    }
+}
+
+/// At a frame: what is returned is one variable more of a point, and each failure stays what it
+/// is.
+fn push_resume(
+    alloc: Global,
+    integers: Integers,
+    rules: &mut Items<Rule>,
+    a: Point,
+    b: Point,
+) -> Result<(), AllocError>
+    ensures { OnOk result (rules.new ≡ rules.old ++
+        spec.rules_of_action integers (λ f. f) a (Action.Resume b)) }
+{
+    rules.push(over_value(alloc, a, b)?)?;
+    push_failures(alloc, integers, rules, a)
+}
+
+/// On to another point, with a variable set.
+fn push_set(
+    alloc: Global,
+    rules: &mut Items<Rule>,
+    a: Point,
+    k: u32,
+    value: &Poly,
+    z: Point,
+) -> Result<(), AllocError>
+    ensures { OnOk result (rules.new ≡ rules.old ++
+        spec.rules_of_action Unbounded (λ f. f) a (Action.Set k value.now z)) }
+{
+    let args = with_element(k, value.try_clone(alloc)?, first_variables(alloc, a.width)?)?;
+    push_jump(alloc, rules, a, args, z)
+}
+
+/// What a point returns.
+fn push_return(
+    alloc: Global,
+    rules: &mut Items<Rule>,
+    a: Point,
+    value: &Poly,
+) -> Result<(), AllocError>
+    ensures { OnOk result (rules.new ≡ rules.old ++
+        spec.rules_of_action Unbounded (λ f. f) a (Action.Return value.now)) }
+{
+    let left = call_of(alloc, a)?;
+    rules.push(always(alloc, left, Term::Return(value.try_clone(alloc)?)))
+}
+
+/// Adds the rules of an instruction after others, by the kind of integers, where `entries` has the
+/// entry of each function.
 /// Large exactly where the negation of a row, or the result of a division, passes the limits.
 pub fn push_rules(
     alloc: Global,
+    integers: Integers,
     rules: &mut Items<Rule>,
     entries: &[(u32, u32)],
     d: &Instruction,
 ) -> Result<(), PolyEnd>
     ensures forms { FormsAs (λ _. rules.new) PolyEnd.Large result
-        (rules_after entries.now rules.old d.now) }
+        (rules_after integers entries.now rules.old d.now) }
 {
     let a = d.at;
     match &d.action {
         Action::Go(z) => push_jump(alloc, rules, a, first_variables(alloc, a.width)?, *z)?,
-        Action::Set(k, value, z) => {
-            let old = first_variables(alloc, a.width)?;
-            let args = with_element(*k, value.try_clone(alloc)?, old)?;
-            push_jump(alloc, rules, a, args, *z)?;
-        }
+        Action::Set(k, value, z) => push_set(alloc, rules, a, *k, value, *z)?,
         Action::Test(row, y, w) => push_test(alloc, rules, a, row, *y, *w)?,
+        Action::Exclude(row, z) => push_exclusion(alloc, rules, a, row, *z)?,
         Action::Divide(way, left, right, b) => {
             push_division(alloc, rules, a, *way, left, right, *b)?;
         }
         Action::Call(f, args, r) => push_call(alloc, rules, a, entry_of(entries, *f), args, *r)?,
-        Action::Resume(b) => push_resume(alloc, rules, a, *b)?,
-        Action::Return(value) => {
-            let left = call_of(alloc, a)?;
-            rules.push(always(alloc, left, Term::Return(value.try_clone(alloc)?)))?;
-        }
+        Action::Resume(b) => push_resume(alloc, integers, rules, a, *b)?,
+        Action::Return(value) => push_return(alloc, rules, a, value)?,
     }
     Ok(())
 }

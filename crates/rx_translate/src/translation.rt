@@ -9,7 +9,7 @@ use crate::parts::parts_of;
 use crate::reached::reached_functions;
 use crate::rules::entry_of;
 use crate::translate_end::TranslateEnd;
-use c_ast::Resolved;
+use c_ast::{Integers, Resolved};
 use rx_stmts::code_of;
 use rx_term::{RuleSet, Sym};
 use std::alloc::Global;
@@ -28,6 +28,7 @@ pub struct Translation {
 /// The rule set of two functions, whatever their numbers of parameters.
 fn translated(
     alloc: Global,
+    integers: Integers,
     program: &Resolved,
     first: u32,
     second: u32,
@@ -36,14 +37,19 @@ fn translated(
     requires first_there { first < length program.now.functions }
     requires second_there { second < length program.now.functions }
     ensures translation { IfOk result (λ t.
-        IsTranslation program.now first second t.rules t.first t.second) }
+        IsTranslation integers program.now first second t.rules t.first t.second) }
     ensures large { IfErr result (λ e.
-        e ≡ TranslateEnd.Large → IsBeyond program.now first second) }
+        e ≡ TranslateEnd.Large → IsBeyond integers program.now first second) }
     ensures no_arity { (m n : ℕ) → ¬ (result ≡ Err (TranslateEnd.ArityDiffers m n)) }
 {
     let places = reached_functions(alloc, program, first, second)?;
-    let code = code_of(alloc, program.functions.as_slice(), places.as_slice())?;
-    let parts = parts_of(alloc, &code)?;
+    let code = code_of(
+        alloc,
+        integers,
+        program.functions.as_slice(),
+        places.as_slice(),
+    )?;
+    let parts = parts_of(alloc, integers, &code)?;
     let Some(rules) = RuleSet::from_parts(parts) else {
         unreachable!()
     };
@@ -56,12 +62,13 @@ fn translated(
 }
 
 /// The rule set of two functions of a program and of all that they reach by calls, calls in
-/// unreachable code included, with the first symbol of each. ArityDiffers exactly where they
-/// haven't as many parameters; then nothing is compiled. Large exactly where a polynomial passes
-/// the limits, a symbol would have more than 128 variables, or there would be more than 4,096
-/// symbols.
+/// unreachable code included, by the kind of integers, with the first symbol of each. ArityDiffers
+/// exactly where they haven't as many parameters; then nothing is compiled. Large exactly where a
+/// polynomial passes the limits, a symbol would have more than 128 variables, or there would be
+/// more than 4,096 symbols.
 pub fn rules_of(
     alloc: Global,
+    integers: Integers,
     program: &Resolved,
     first: u32,
     second: u32,
@@ -70,10 +77,10 @@ pub fn rules_of(
     requires first_there { first < length program.now.functions }
     requires second_there { second < length program.now.functions }
     ensures translation { IfOk result (λ t.
-        IsTranslation program.now first second t.rules t.first t.second) }
+        IsTranslation integers program.now first second t.rules t.first t.second) }
     ensures paired { IfOk result (λ t. IsPaired t.rules) }
     ensures large { IfErr result (λ e.
-        e ≡ TranslateEnd.Large → IsBeyond program.now first second) }
+        e ≡ TranslateEnd.Large → IsBeyond integers program.now first second) }
     ensures arity { (m n : ℕ) → (result ≡ Err (TranslateEnd.ArityDiffers m n))
         ↔ AritiesDiffer program.now first second m n }
 {
@@ -86,5 +93,5 @@ pub fn rules_of(
             second: other,
         });
     }
-    translated(alloc, program, first, second)
+    translated(alloc, integers, program, first, second)
 }

@@ -3,4 +3,5 @@ use Rattle.rx_agreement.proofs.laws.convertible_results_are_one_outcome.Goals as
 
 pub returns : goal.returns
 returns c =
-    λ program scoped f g parts first second t. return_alike program scoped f g parts first second t
+    λ integers program scoped f g parts first second t. return_alike integers program scoped f g
+    parts first second t

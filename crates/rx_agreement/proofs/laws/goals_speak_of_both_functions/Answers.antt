@@ -3,4 +3,5 @@ use Rattle.rx_agreement.proofs.laws.goals_speak_of_both_functions.Goals as goal
 
 pub returns : goal.returns
 returns c =
-    λ program scoped f g parts first second t. goal_alike program scoped f g parts first second t
+    λ integers program scoped f g parts first second t. goal_alike integers program scoped f g parts
+    first second t

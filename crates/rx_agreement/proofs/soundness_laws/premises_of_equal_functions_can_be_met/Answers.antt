@@ -1,5 +1,6 @@
 use Rattle.std.proofs.Common.{refl, []}
 use Rattle.std.proofs.lemmas.List.Elements.{All-nil}
+use Rattle.c_ast.specs.declared.integers.Integers.TheVariants.{Unbounded}
 use Rattle.rx_row.specs.Holds.{RowHolds}
 use Rattle.rx_term.specs.Assigned.{assigned}
 use Rattle.rx_agreement.specs.SoundnessExample.{example, first, parts, second, table}
@@ -18,6 +19,7 @@ returns-clause-proof c = example_proof
 
 pub returns-clause-alike : goal.returns-clause-alike
 returns-clause-alike c =
-    proof_returns_alike example example_scoped 0 1 parts first second example_translated [] [] refl
+    proof_returns_alike Unbounded example example_scoped 0 1 parts first second example_translated
+    [] [] refl
     refl
     (All-nil (RowHolds (assigned []))) [] table example_proof

@@ -3,7 +3,9 @@ use Rattle.rx_agreement.proofs.soundness_laws.proofs_show_equal_functions.Goals 
 
 pub returns : goal.returns
 returns c =
-    λ program scoped f g parts first second t arguments rows count also holds hypotheses table
+    λ integers program scoped f g parts first second t arguments rows count also holds hypotheses
+    table
     proof.
-    proof_returns_alike program scoped f g parts first second t arguments rows count also holds
+    proof_returns_alike integers program scoped f g parts first second t arguments rows count also
+    holds
     hypotheses table proof

@@ -3,8 +3,10 @@ use Rattle.rx_code.proofs.code_laws.goals_fit_their_translation.Goals as goal
 
 pub returns-clause-left : goal.returns-clause-left
 returns-clause-left c =
-    λ program scoped f g parts first second t. left_fits program scoped f g parts first second t
+    λ integers program scoped f g parts first second t. left_fits integers program scoped f g parts
+    first second t
 
 pub returns-clause-right : goal.returns-clause-right
 returns-clause-right c =
-    λ program scoped f g parts first second t. right_fits program scoped f g parts first second t
+    λ integers program scoped f g parts first second t. right_fits integers program scoped f g parts
+    first second t

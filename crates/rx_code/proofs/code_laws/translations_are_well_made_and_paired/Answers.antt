@@ -3,10 +3,12 @@ use Rattle.rx_code.proofs.code_laws.translations_are_well_made_and_paired.Goals 
 
 pub returns-clause-made : goal.returns-clause-made
 returns-clause-made c =
-    λ program scoped f g parts first second t. translation_made program scoped f g parts first
+    λ integers program scoped f g parts first second t. translation_made integers program scoped f g
+    parts first
     second t
 
 pub returns-clause-paired : goal.returns-clause-paired
 returns-clause-paired c =
-    λ program scoped f g parts first second t. translation_paired program scoped f g parts first
+    λ integers program scoped f g parts first second t. translation_paired integers program scoped f
+    g parts first
     second t

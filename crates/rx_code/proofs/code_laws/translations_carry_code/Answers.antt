@@ -3,9 +3,11 @@ use Rattle.rx_code.proofs.code_laws.translations_carry_code.Goals as goal
 
 pub returns-clause-carried : goal.returns-clause-carried
 returns-clause-carried c =
-    λ program scoped f g parts first second t. translation_carries program scoped f g parts first
+    λ integers program scoped f g parts first second t. translation_carries integers program scoped
+    f g parts first
     second t
 
 pub returns-clause-entries : goal.returns-clause-entries
 returns-clause-entries c =
-    λ program scoped f g parts first second t. reached_entry program scoped f g parts first second t
+    λ integers program scoped f g parts first second t. reached_entry integers program scoped f g
+    parts first second t

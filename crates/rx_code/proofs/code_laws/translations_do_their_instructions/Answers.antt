@@ -3,5 +3,6 @@ use Rattle.rx_code.proofs.code_laws.translations_do_their_instructions.Goals as 
 
 pub returns : goal.returns
 returns c =
-    λ program scoped f g parts first second t. translation_does program scoped f g parts first
+    λ integers program scoped f g parts first second t. translation_does integers program scoped f g
+    parts first
     second t

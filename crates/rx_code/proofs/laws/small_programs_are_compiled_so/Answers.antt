@@ -1,4 +1,4 @@
-use Rattle.rx_code.proofs.Example.{sums_compiled, division_compiled, forms_compiled, walks_compiled, between_read}
+use Rattle.rx_code.proofs.Example.{sums_compiled, division_compiled, forms_compiled, ranges_compiled, walks_compiled, between_read}
 use Rattle.rx_code.proofs.laws.small_programs_are_compiled_so.Goals as goal
 
 pub returns-clause-sums : goal.returns-clause-sums
@@ -15,3 +15,6 @@ returns-clause-rows c = between_read
 
 pub returns-clause-walks : goal.returns-clause-walks
 returns-clause-walks c = walks_compiled
+
+pub returns-clause-ranges : goal.returns-clause-ranges
+returns-clause-ranges c = ranges_compiled

@@ -4,4 +4,5 @@ use Rattle.rx_exprs.proofs.exprs.+exprs.Given as goal
 
 abbrev pub invariant-arguments-loop-e : goal.invariant-arguments-loop-e
 invariant-arguments-loop-e l =
-    Compiling l.fn.code l.code l.fn.a l.at l.values (drop l.e-index l.e-items) l.e-items
+    Compiling l.setting.integers l.fn.code l.code l.fn.a l.at l.values (drop l.e-index l.e-items)
+    l.e-items

@@ -12,10 +12,10 @@ pub returns-clause-paired : goal.returns-clause-paired
 returns-clause-paired c =
     let program = c.args.program.now in
     IfOk-weaker c.translated.result (λ (t : Translation).
-    IsTranslation program c.args.first c.args.second t.rules t.first t.second)
+    IsTranslation c.args.integers program c.args.first c.args.second t.rules t.first t.second)
     (λ (t : Translation). IsPaired t.rules)
-    (λ t is. translation_paired program c.requires.scoped c.args.first c.args.second t.rules t.first
-    t.second is) c.translated.ensures.translation
+    (λ t is. translation_paired c.args.integers program c.requires.scoped c.args.first
+    c.args.second t.rules t.first t.second is) c.translated.ensures.translation
 
 pub returns-clause-arity : goal.returns-clause-arity
 returns-clause-arity c =

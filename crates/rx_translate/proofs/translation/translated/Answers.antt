@@ -9,9 +9,11 @@ unreachable-requires c =
     let program = c.args.program.now in
     let places = c.in_ok-places.places in
     let code = c.in_ok-code.code in
-    let compiled = compiled_is c.as_slice.result.now program.functions c.as_slice-2.result.now
-    places code c.as_slice.ensures c.as_slice-2.ensures c.in_ok-code.ensures.forms in
-    let made = parts_made program c.args.first c.args.second places c.in_ok-places.ensures code
+    let compiled = compiled_is c.args.integers c.as_slice.result.now program.functions
+    c.as_slice-2.result.now places code c.as_slice.ensures c.as_slice-2.ensures
+    c.in_ok-code.ensures.forms in
+    let made = parts_made c.args.integers program c.args.first c.args.second places
+    c.in_ok-places.ensures code
     compiled c.requires.first_there c.requires.second_there c.in_ok-parts.parts
     c.in_ok-parts.ensures.forms
     c.requires.scoped in
