@@ -3,6 +3,7 @@ use Rattle.std.proofs.Common.{◌≡◌, ◌≢◌, ℕ, ◌<◌, List, length, 
 use Rattle.std.proofs.lemmas.List.{length-map}
 use Rattle.rx_plain.proofs.Lists.{element_within, position_within}
 use Rattle.c_lex.specs.declared.token.Token.{Token}
+use Rattle.c_ast.specs.declared.integers.Integers.{Integers}
 use Rattle.c_ast.specs.declared.program.Function.{Function}
 use Rattle.c_ast.specs.declared.program.Program.{Program}
 use Rattle.c_ast.specs.declared.program.Resolved.{Resolved}
@@ -30,8 +31,8 @@ counts_at source tokens program resolved scoped i =
     by_counted (Some f) None e = absurd (none-some _ (sym e))
     by_counted (Some f) (Some g) e = let same : length f.params ≡ length g.params = cc in same
 
-module _ (source : List ℕ) (tokens : List Token) (program : Program) (resolved : Resolved)
-    (well : IsWellFormed source tokens program resolved) where
+module _ (integers : Integers) (source : List ℕ) (tokens : List Token) (program : Program)
+    (resolved : Resolved) (well : IsWellFormed integers source tokens program resolved) where
   -- a name's place is that of a function of the program
   place_within : (name : List ℕ) (i : ℕ) → place_in source tokens program name ≡ Some i → i <
       length program.functions
@@ -70,7 +71,7 @@ module _ (source : List ℕ) (tokens : List Token) (program : Program) (resolved
     -- one of the names has no function
     pub lacks : (name : ℕ) → missing (place_in source tokens program first)
         (place_in source tokens program second) ≡ Some name
-        → IsReading source first second (Ends (NoFunction name))
+        → IsReading integers source first second (Ends (NoFunction name))
     lacks name is = (tokens, program, resolved, well, is)
 
     module _ (i j : ℕ) (first_is : place_in source tokens program first ≡ Some i)
@@ -79,7 +80,7 @@ module _ (source : List ℕ) (tokens : List Token) (program : Program) (resolved
       named = record { program = resolved; first = i; second = j }
 
       are_named : (f g : Function) → slice_get resolved.functions i ≡ Some f →
-          slice_get resolved.functions j ≡ Some g → AreNamed source first second named f g
+          slice_get resolved.functions j ≡ Some g → AreNamed integers source first second named f g
       are_named f g at_i at_j = record {
         tokens = tokens;
         program = program;
@@ -93,7 +94,7 @@ module _ (source : List ℕ) (tokens : List Token) (program : Program) (resolved
       -- both have functions, with other numbers of parameters
       pub other_counts : (m n : ℕ) → m ≡ count_at (slice_get program.functions i) → n ≡
           count_at (slice_get program.functions j) → m ≢ n
-          → IsReading source first second (Ends (Arity m n))
+          → IsReading integers source first second (Ends (Arity m n))
       other_counts m n is_m is_n differ =
           let left = stands first i first_is in
           let right = stands second j second_is in (
@@ -109,7 +110,7 @@ module _ (source : List ℕ) (tokens : List Token) (program : Program) (resolved
       -- both have functions, of equally many parameters
       pub comparable : (m n : ℕ) → m ≡ count_at (slice_get program.functions i) → n ≡
           count_at (slice_get program.functions j) → m ≡ n
-          → IsReading source first second (Goes named)
+          → IsReading integers source first second (Goes named)
       comparable m n is_m is_n same =
           let left = stands first i first_is in
           let right = stands second j second_is in (

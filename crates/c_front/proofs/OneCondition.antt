@@ -3,6 +3,7 @@ use Rattle.std.proofs.Common.{◌≡◌, ℕ, List, Option, Some, None, sym, ap,
 use Rattle.c_lex.specs.declared.token.Token.{Token}
 use Rattle.c_lex.specs.Tokens.{tokens_of}
 use Rattle.c_ast.specs.declared.expr.Expr.{Expr}
+use Rattle.c_ast.specs.declared.integers.Integers.{Integers}
 use Rattle.c_parse.proofs.OneAnswer.{one_pre_refusal, spelled_unrefused_pre}
 use Rattle.c_parse.proofs.PreLemmas.{expression_unique}
 use Rattle.c_parse.proofs.Unique.{program_unique}
@@ -84,15 +85,18 @@ one_condition source (Some bytes) two (Goes c) (Goes d) (t, p, e, a, is_c) (u, q
     (subst (λ v. read_pre source v two.first bytes (Goes f)) (one_text source u t q p) b) in
     is_c ∙ (ap (λ (x : Expr). comparison two (Some x)) same ∙ sym is_d)
 
-pub one_whole : (source first second : List ℕ) (pre : Option (List ℕ)) (x y : Next Refusal Compared)
-    → whole_front source first second pre x → whole_front source first second pre y → AreSame x y
-one_whole source first second pre =
-    one_before (λ (text : List ℕ). front text first second) (condition_stage source pre)
-    (λ text x y p q. one_front text first second x y p q) (one_condition source pre) source
+pub one_whole : (integers : Integers) (source first second : List ℕ) (pre : Option (List ℕ))
+    (x y : Next Refusal Compared)
+    → whole_front integers source first second pre x
+    → whole_front integers source first second pre y → AreSame x y
+one_whole integers source first second pre =
+    one_before (λ (text : List ℕ). front integers text first second) (condition_stage source pre)
+    (λ text x y p q. one_front integers text first second x y p q) (one_condition source pre) source
 
 -- a text, two names and a precondition have one answer
-pub one_compared : (source first second : List ℕ) (pre : Option (List ℕ))
+pub one_compared : (integers : Integers) (source first second : List ℕ) (pre : Option (List ℕ))
     (x y : Next Refusal Compared)
-    → whole_front source first second pre x → whole_front source first second pre y → x ≡ y
-one_compared source first second pre x y p q =
-    same_next x y (one_whole source first second pre x y p q)
+    → whole_front integers source first second pre x
+    → whole_front integers source first second pre y → x ≡ y
+one_compared integers source first second pre x y p q =
+    same_next x y (one_whole integers source first second pre x y p q)

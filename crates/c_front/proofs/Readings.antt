@@ -5,6 +5,7 @@ use Rattle.std.proofs.lemmas.Bool.Decides.{eqb_tells}
 use Rattle.c_lex.specs.declared.token.Token.{Token}
 use Rattle.c_lex.specs.Tokens.{tokens_of}
 use Rattle.c_ast.specs.declared.program.Function.{Function}
+use Rattle.c_ast.specs.declared.integers.Integers.{Integers}
 use Rattle.c_ast.specs.declared.program.Resolved.{Resolved}
 use Rattle.c_parse.specs.Answers.{Answers}
 use Rattle.c_names.specs.declared.error.ScopeEnd.{ScopeEnd}
@@ -12,13 +13,14 @@ use Rattle.c_names.specs.Expressions.{count_at}
 use Rattle.c_scope.specs.Programs.{scope_of}
 use Rattle.c_front.specs.declared.pairs.TwoFunctions.{TwoFunctions}
 use Rattle.c_front.specs.declared.refusals.Refusal.{Refusal}
-use Rattle.c_front.specs.declared.refusals.Refusal.TheVariants.{Lex, Parse, Scope, NoFunction, Arity, PreLex, PreParse, PreName}
+use Rattle.c_front.specs.declared.refusals.Refusal.TheVariants.{Lex, Parse, Scope, WideLiteral, NoFunction, Arity, PreLex, PreParse, PreName}
 use Rattle.c_front.specs.declared.stages.Next.{Next}
 use Rattle.c_front.specs.declared.stages.Next.TheVariants.{Ends, Goes}
 use Rattle.c_front.specs.declared.texts.ProgramText.{ProgramText}
 use Rattle.c_front.specs.declared.texts.ResolvedText.{ResolvedText}
-use Rattle.c_front.specs.Front.{count_in, count_stage, front, two_at, with_counts, with_names}
+use Rattle.c_front.specs.Front.{count_in, count_stage, front, two_at, where_narrow, with_counts, with_names}
 use Rattle.c_front.specs.FrontEnd.{AreNamed, IsProgram, IsReading, IsRefused, IsWellFormed, missing, place_in}
+use Rattle.c_front.specs.Literals.{first_wide}
 use Rattle.c_front.proofs.FrontEndLaws.{comparable, counts_at, other_counts}
 
 -- what the names were resolved to
@@ -33,6 +35,17 @@ names_err : (text : ProgramText) (r : Result Resolved ScopeEnd) (fault : ScopeEn
     with_names text r ≡ Err fault → r ≡ Err fault
 names_err text (Ok resolved) fault is = let no : ⊥ = cc in absurd no
 names_err text (Err other) fault is = let same : other ≡ fault = cc in ap Err same
+
+-- a text whose numbers are integers of the kind
+narrow_ok : (found : ResolvedText) (o : Option ℕ) (known : ResolvedText) → where_narrow found o ≡
+    Ok known → (o ≡ None) × (found ≡ known)
+narrow_ok found None known is = (refl, cc)
+narrow_ok found (Some token) known is = let no : ⊥ = cc in absurd no
+
+narrow_err : (found : ResolvedText) (o : Option ℕ) (token : ℕ) → where_narrow found o ≡ Err token →
+    o ≡ Some token
+narrow_err found None token is = let no : ⊥ = cc in absurd no
+narrow_err found (Some other) token is = let same : other ≡ token = cc in ap Some same
 
 -- the functions at two places
 pub two_ok : (resolved : Resolved) (o p : Option ℕ) (two : TwoFunctions) → two_at resolved o p ≡
@@ -101,20 +114,24 @@ is_program source tokens text lexed same spelled = record {
   spelled = subst (λ ts. Answers ts (Ok text.program)) (sym same) spelled;
 }
 
-module _ (source first second : List ℕ) where
+module _ (integers : Integers) (source first second : List ℕ) where
   -- the functions that the stages name are named by the text
   module _ (tokens : List Token) (text : ProgramText) (known : ResolvedText) (two : TwoFunctions)
       (lexed : tokens_of source ≡ Ok tokens) (same : text.tokens ≡ tokens)
       (spelled : Answers tokens (Ok text.program))
       (scoped : with_names text (scope_of source text.tokens text.program) ≡ Ok known)
+      (narrow : first_wide integers known.text.tokens ≡ None)
       (named : two_at known.resolved (place_in source known.text.tokens known.text.program first)
       (place_in source known.text.tokens known.text.program second) ≡ Ok two) where
-    well : IsWellFormed source text.tokens text.program two.program
+    well : IsWellFormed integers source text.tokens text.program two.program
     well = record {
       is = is_program source tokens text lexed same spelled;
       scoped =
           (names_ok text (scope_of source text.tokens text.program) known scoped).0 ∙
           ap Ok (sym (two_ok known.resolved _ _ two named).0);
+      narrow =
+          subst (λ (t : ProgramText). first_wide integers t.tokens ≡ None)
+          (names_ok text (scope_of source text.tokens text.program) known scoped).1 narrow;
     }
 
     counted_as : (i : ℕ) → count_in two.program i ≡ count_at (slice_get text.program.functions i)
@@ -133,37 +150,44 @@ module _ (source first second : List ℕ) where
     second_is = place second two.second (two_ok known.resolved _ _ two named).2
 
     pub reading_by_counts : (x : Next Refusal TwoFunctions) → count_stage two x →
-        IsReading source first second x
+        IsReading integers source first second x
     reading_by_counts (Ends refusal) (found, is, is_found) =
         let e = counts_err two (count_in two.program two.first) (count_in two.program two.second)
         found is in
-        subst (λ r. IsReading source first second (Ends r)) (e.0 ∙ sym is_found)
-        (other_counts source text.tokens text.program two.program well first second two.first
+        subst (λ r. IsReading integers source first second (Ends r)) (e.0 ∙ sym is_found)
+        (other_counts integers source text.tokens text.program two.program well first second
+        two.first
         two.second first_is second_is (count_in two.program two.first)
         (count_in two.program two.second)
         (counted_as two.first) (counted_as two.second) e.1)
     reading_by_counts (Goes t) is =
         let e = counts_ok two (count_in two.program two.first) (count_in two.program two.second) t
         is in
-        subst (λ r. IsReading source first second (Goes r)) e.0
-        (comparable source text.tokens text.program two.program well first second two.first
+        subst (λ r. IsReading integers source first second (Goes r)) e.0
+        (comparable integers source text.tokens text.program two.program well first second two.first
         two.second first_is second_is (count_in two.program two.first)
         (count_in two.program two.second)
         (counted_as two.first) (counted_as two.second) e.1)
 
+  narrow_none : (found known : ResolvedText) →
+      (first_wide integers found.text.tokens ≡ None) × (found ≡ known) →
+      first_wide integers known.text.tokens ≡ None
+  narrow_none found known (few, same) =
+      subst (λ (k : ResolvedText). first_wide integers k.text.tokens ≡ None) same few
+
   -- what the stages say is so of the text
-  pub reading_of : (x : Next Refusal TwoFunctions) → front source first second x →
-      IsReading source first second x
+  pub reading_of : (x : Next Refusal TwoFunctions) → front integers source first second x →
+      IsReading integers source first second x
   reading_of (Ends refusal) (inl (fault, lexed, is)) =
-      subst (IsRefused source first second) (sym is) lexed
+      subst (IsRefused integers source first second) (sym is) lexed
   reading_of (Ends refusal) (inr (tokens, lexed, inl (end, answers, other, is))) =
-      subst (IsRefused source first second) (sym is) (tokens, lexed, answers, other)
+      subst (IsRefused integers source first second) (sym is) (tokens, lexed, answers, other)
   reading_of (Ends refusal) (inr (
     tokens,
     lexed,
     inr (text, (same, spelled), inl (fault, scoped, is)),
   )) =
-      subst (IsRefused source first second) (sym is) (
+      subst (IsRefused integers source first second) (sym is) (
         text.tokens,
         text.program,
         is_program source tokens text lexed same spelled,
@@ -172,42 +196,76 @@ module _ (source first second : List ℕ) where
   reading_of (Ends refusal) (inr (
     tokens,
     lexed,
-    inr (text, (same, spelled), inr (known, scoped, inl (name, named, is))),
+    inr (text, (same, spelled), inr (found, scoped, inl (token, wide, is))),
   )) =
-      let found = names_ok text (scope_of source text.tokens text.program) known scoped in
-      let lacks = two_err known.resolved _ _ name named in
-      let here : missing (place_in source text.tokens text.program first)
-      (place_in source text.tokens text.program second) ≡ Some name =
-      subst (λ (t : ProgramText). missing (place_in source t.tokens t.program first)
-      (place_in source t.tokens t.program second) ≡ Some name) found.1 lacks in
-      subst (IsRefused source first second) (sym is) (
+      let named = names_ok text (scope_of source text.tokens text.program) found scoped in
+      let here : first_wide integers text.tokens ≡ Some token =
+      subst (λ (t : ProgramText). first_wide integers t.tokens ≡ Some token) named.1
+      (narrow_err found _ token wide) in
+      subst (IsRefused integers source first second) (sym is) (
         text.tokens,
         text.program,
-        known.resolved,
-        record { is = is_program source tokens text lexed same spelled; scoped = found.0 },
+        found.resolved,
+        is_program source tokens text lexed same spelled,
+        named.0,
         here,
       )
   reading_of (Ends refusal) (inr (
     tokens,
     lexed,
-    inr (text, (same, spelled), inr (known, scoped, inr (two, named, counted))),
+    inr (text, (same, spelled), inr (found, scoped, inr (known, narrow, inl (name, named, is)))),
   )) =
-      reading_by_counts tokens text known two lexed same spelled scoped named (Ends refusal) counted
+      let kept = narrow_ok found _ known narrow in
+      let all = names_ok text (scope_of source text.tokens text.program) known
+      (scoped ∙ ap Ok kept.1) in
+      let lacks = two_err known.resolved _ _ name named in
+      let here : missing (place_in source text.tokens text.program first)
+      (place_in source text.tokens text.program second) ≡ Some name =
+      subst (λ (t : ProgramText). missing (place_in source t.tokens t.program first)
+      (place_in source t.tokens t.program second) ≡ Some name) all.1 lacks in
+      let few : first_wide integers text.tokens ≡ None =
+      subst (λ (t : ProgramText). first_wide integers t.tokens ≡ None)
+      (ap (λ (k : ResolvedText). k.text) kept.1 ∙ all.1) kept.0 in
+      subst (IsRefused integers source first second) (sym is) (
+        text.tokens,
+        text.program,
+        known.resolved,
+        record {
+          is = is_program source tokens text lexed same spelled;
+          scoped = all.0;
+          narrow = few;
+        },
+        here,
+      )
+  reading_of (Ends refusal) (inr (
+    tokens,
+    lexed,
+    inr (
+      text,
+      (same, spelled),
+      inr (found, scoped, inr (known, narrow, inr (two, named, counted))),
+    ),
+  )) =
+      let kept = narrow_ok found _ known narrow in
+      reading_by_counts tokens text known two lexed same spelled (scoped ∙ ap Ok kept.1)
+      (narrow_none found known kept) named (Ends refusal) counted
   reading_of (Goes t) (
     tokens,
     lexed,
     (
       text,
       (same, spelled),
-      (known, scoped, (two, named, counted)),
+      (found, scoped, (known, narrow, (two, named, counted))),
     ),
   ) =
-      reading_by_counts tokens text known two lexed same spelled scoped named (Goes t) counted
+      let kept = narrow_ok found _ known narrow in
+      reading_by_counts tokens text known two lexed same spelled (scoped ∙ ap Ok kept.1)
+      (narrow_none found known kept) named (Goes t) counted
 
   -- the stages up to the names
   named_so : (two : TwoFunctions) (left right : Function)
-      (are : AreNamed source first second two left right) (x : Next Refusal TwoFunctions)
-      → count_stage two x → front source first second x
+      (are : AreNamed integers source first second two left right) (x : Next Refusal TwoFunctions)
+      → count_stage two x → front integers source first second x
   named_so two left right are x counted = go x counted
     where
       text : ProgramText
@@ -219,17 +277,25 @@ module _ (source first second : List ℕ) where
       scoped : with_names text (scope_of source are.tokens are.program) ≡ Ok known
       scoped = ap (with_names text) are.is.scoped
 
+      narrow : where_narrow known (first_wide integers are.tokens) ≡ Ok known
+      narrow = ap (where_narrow known) are.is.narrow
+
       named : two_at two.program (place_in source are.tokens are.program first)
           (place_in source are.tokens are.program second) ≡ Ok two
       named = λ i. two_at two.program (are.first_stands i) (are.second_stands i)
 
-      go : (x : Next Refusal TwoFunctions) → count_stage two x → front source first second x
+      go : (x : Next Refusal TwoFunctions) → count_stage two x →
+          front integers source first second x
       go (Ends refusal) counted =
           inr (
             are.tokens,
             are.is.is.lexed,
-            inr
-                (text, (refl, are.is.is.spelled), inr (known, scoped, inr (two, named, counted))),
+            inr (
+              text,
+              (refl, are.is.is.spelled),
+              inr
+                  (known, scoped, inr (known, narrow, inr (two, named, counted))),
+            ),
           )
       go (Goes t) counted = (
         are.tokens,
@@ -237,13 +303,13 @@ module _ (source first second : List ℕ) where
         (
           text,
           (refl, are.is.is.spelled),
-          (known, scoped, (two, named, counted)),
+          (known, scoped, (known, narrow, (two, named, counted))),
         ),
       )
 
   -- what is so of the text, the stages say
-  pub front_of : (x : Next Refusal TwoFunctions) → IsReading source first second x →
-      front source first second x
+  pub front_of : (x : Next Refusal TwoFunctions) → IsReading integers source first second x →
+      front integers source first second x
   front_of (Ends (Lex fault)) is = inl (fault, is, refl)
   front_of (Ends (Parse end)) (tokens, lexed, answers, other) =
       inr (tokens, lexed, inl (end, answers, other, refl))
@@ -258,8 +324,25 @@ module _ (source first second : List ℕ) where
           inl (fault, ap (with_names text) wrong, refl),
         ),
       )
+  front_of (Ends (WideLiteral token)) (tokens, program, resolved, is, scoped, wide) =
+      let text : ProgramText = record { tokens = tokens; program = program } in
+      let known : ResolvedText = record { text = text; resolved = resolved } in
+      inr (
+        tokens,
+        is.lexed,
+        inr (
+          text,
+          (refl, is.spelled),
+          inr (
+            known,
+            ap (with_names text) scoped,
+            inl (token, ap (where_narrow known) wide, refl),
+          ),
+        ),
+      )
   front_of (Ends (NoFunction name)) (tokens, program, resolved, well, lacks) =
       let text : ProgramText = record { tokens = tokens; program = program } in
+      let known : ResolvedText = record { text = text; resolved = resolved } in
       inr (
         tokens,
         well.is.lexed,
@@ -267,9 +350,13 @@ module _ (source first second : List ℕ) where
           text,
           (refl, well.is.spelled),
           inr (
-            record { text = text; resolved = resolved },
+            known,
             ap (with_names text) well.scoped,
-            inl (name, err_two resolved _ _ name lacks, refl),
+            inr (
+              known,
+              ap (where_narrow known) well.narrow,
+              inl (name, err_two resolved _ _ name lacks, refl),
+            ),
           ),
         ),
       )

@@ -5,6 +5,7 @@ use Rattle.std.specs.Option.{option_map_or}
 use Rattle.c_lex.specs.declared.token.Token.{Token}
 use Rattle.c_lex.specs.Tokens.{tokens_of}
 use Rattle.c_ast.specs.declared.expr.Expr.{Expr}
+use Rattle.c_ast.specs.declared.integers.Integers.{Integers}
 use Rattle.c_ast.specs.declared.program.Function.{Function}
 use Rattle.c_parse.specs.declared.error.ParseEnd.{ParseEnd}
 use Rattle.c_parse.specs.declared.error.ParseEnd.TheVariants as Flaw
@@ -77,6 +78,7 @@ condition_stage source (Some bytes) two (Goes compared) =
     (compared ≡ comparison two (Some pre))
 
 -- what the front end says of a text, two names and a precondition
-abbrev pub whole_front : List ℕ → List ℕ → List ℕ → Option (List ℕ) → Next Refusal Compared → Type 0
-whole_front source first second pre =
-    before (λ (text : List ℕ). front text first second) (condition_stage source pre) source
+abbrev pub whole_front : Integers → List ℕ → List ℕ → List ℕ → Option (List ℕ) →
+    Next Refusal Compared → Type 0
+whole_front integers source first second pre =
+    before (λ (text : List ℕ). front integers text first second) (condition_stage source pre) source

@@ -1,8 +1,9 @@
--- The front end as stages: tokens, grammar, scope, the two names, their numbers of parameters. The
--- first stage that ends the run decides.
+-- The front end as stages: tokens, grammar, scope, the numbers, the two names, their numbers of
+-- parameters. The first stage that ends the run decides.
 use Rattle.std.specs.Prelude.{◌≡◌, ◌≢◌, ℕ, List, Option, Some, None, Result, Ok, Err, nat_eq, slice_get, if◌then◌else◌}
 use Rattle.c_lex.specs.declared.token.Token.{Token}
 use Rattle.c_lex.specs.Tokens.{tokens_of}
+use Rattle.c_ast.specs.declared.integers.Integers.{Integers}
 use Rattle.c_ast.specs.declared.program.Resolved.{Resolved}
 use Rattle.c_parse.specs.declared.error.ParseEnd.{ParseEnd}
 use Rattle.c_parse.specs.declared.error.ParseEnd.TheVariants as Flaw
@@ -12,12 +13,13 @@ use Rattle.c_names.specs.Expressions.{count_at}
 use Rattle.c_scope.specs.Programs.{scope_of}
 use Rattle.c_front.specs.declared.pairs.TwoFunctions.{TwoFunctions}
 use Rattle.c_front.specs.declared.refusals.Refusal.{Refusal}
-use Rattle.c_front.specs.declared.refusals.Refusal.TheVariants.{Lex, Parse, Scope, NoFunction, Arity}
+use Rattle.c_front.specs.declared.refusals.Refusal.TheVariants.{Lex, Parse, Scope, WideLiteral, NoFunction, Arity}
 use Rattle.c_front.specs.declared.stages.Next.{Next}
 use Rattle.c_front.specs.declared.stages.Next.TheVariants.{Ends, Goes}
 use Rattle.c_front.specs.declared.texts.ProgramText.{ProgramText}
 use Rattle.c_front.specs.declared.texts.ResolvedText.{ResolvedText}
 use Rattle.c_front.specs.FrontEnd.{place_in}
+use Rattle.c_front.specs.Literals.{first_wide}
 use Rattle.c_front.specs.Stages.{Stage, by, before}
 
 -- a text has these tokens, or this first fault
@@ -39,6 +41,16 @@ with_names text (Err fault) = Err fault
 -- the program is well formed, or has this first fault
 abbrev pub scope_stage : List ℕ → Stage Refusal ProgramText ResolvedText
 scope_stage source = by Scope (λ text. with_names text (scope_of source text.tokens text.program))
+
+-- the text, where no number is too wide; otherwise the place of the first that is
+abbrev pub where_narrow : ResolvedText → Option ℕ → Result ResolvedText ℕ
+where_narrow known None = Ok known
+where_narrow known (Some token) = Err token
+
+-- each number of the text is an integer of the kind, or this token is the first that is none
+abbrev pub literal_stage : Integers → Stage Refusal ResolvedText ResolvedText
+literal_stage integers =
+    by WideLiteral (λ known. where_narrow known (first_wide integers known.text.tokens))
 
 -- two functions at these places, or the number of the first name that has none
 abbrev pub two_at : Resolved → Option ℕ → Option ℕ → Result TwoFunctions ℕ
@@ -68,7 +80,7 @@ count_stage =
     (count_in two.program two.second))
 
 -- what the front end says of a text and two names
-abbrev pub front : List ℕ → List ℕ → List ℕ → Next Refusal TwoFunctions → Type 0
-front source first second =
+abbrev pub front : Integers → List ℕ → List ℕ → List ℕ → Next Refusal TwoFunctions → Type 0
+front integers source first second =
     before lex_stage (before parse_stage (before (scope_stage source)
-    (before (name_stage source first second) count_stage))) source
+    (before (literal_stage integers) (before (name_stage source first second) count_stage)))) source

@@ -3,7 +3,8 @@
 //!
 //! What a reader may rely on: each stage answers what its relation in `specs/Front` says, out of
 //! memory apart, and the front end what their composition says. The order is that of the passes:
-//! tokens, grammar, scope, the two names, their numbers of parameters.
+//! tokens, grammar, scope, the numbers by the kind of integers, the two names, their numbers of
+//! parameters.
 ghost use Rattle.std.specs.Prelude.{◌≡◌, ◌<◌, ◌≤◌, ◌^◌, ⊤, Ok, length, slice_get, IfOk, MatchOption};
 ghost use Rattle.c_names.specs.Spellings.{IsWithin};
 ghost use Rattle.c_names.specs.Expressions.{count_at};
@@ -16,8 +17,9 @@ ghost use Rattle.c_front.specs.Stages.{IfGoes};
 ghost use Rattle.c_front.specs.Steps.{CanBeCounted, HaveFewParams, bytes_of, two_of};
 
 use crate::conditions::condition;
+use crate::literals::wide_literal;
 use crate::{Compared, NamedText, Next, ProgramText, Refusal, ResolvedText, TwoFunctions};
-use c_ast::Function;
+use c_ast::{Function, Integers};
 use c_lex::{LexEnd, Token, tokens};
 use c_names::find_function;
 use c_parse::{ParseEnd, parse};
@@ -85,6 +87,23 @@ fn scope_stage(
     }
 }
 
+// The text, where each of its numbers is an integer of the kind.
+fn literal_stage(integers: Integers, known: ResolvedText) -> Next<Refusal, ResolvedText>
+    requires { length known.text.tokens < 2 ^ 32 }
+    ensures stage { spec.literal_stage integers known result }
+    ensures sayable { IsSayableNext result }
+    ensures kept { IfGoes result (λ narrow. narrow ≡ known) }
+{
+    let found = match integers {
+        Integers::Unbounded => None,
+        Integers::Bits32 => wide_literal(known.text.tokens.as_slice()),
+    };
+    match found {
+        None => Next::Goes(known),
+        Some(token) => Next::Ends(Refusal::WideLiteral(token)),
+    }
+}
+
 // The two functions with these names.
 fn name_stage(
     source: &[u8],
@@ -148,12 +167,14 @@ fn count_stage(named: NamedText) -> Next<Refusal, NamedText>
 // What the front end says of a text and two names, with what the program was read from.
 pub(crate) fn named_text(
     alloc: Global,
+    integers: Integers,
     source: &[u8],
     first: &str,
     second: &str,
 ) -> Result<Next<Refusal, NamedText>, NoMemory>
     requires { length source.now ≤ 1048576 }
-    ensures front { IfOk result (λ next. front source.now first.now second.now (two_of next)) }
+    ensures front { IfOk result (λ next.
+        front integers source.now first.now second.now (two_of next)) }
     ensures sayable { IfOk result IsSayableNext }
     ensures text { IfOk result (λ next.
         IfGoes next (λ named. IsProgram source.now named.text.tokens named.text.program)) }
@@ -174,6 +195,10 @@ pub(crate) fn named_text(
         Next::Goes(known) => known,
         Next::Ends(refusal) => return Ok(Next::Ends(refusal)),
     };
+    let known = match literal_stage(integers, known) {
+        Next::Goes(known) => known,
+        Next::Ends(refusal) => return Ok(Next::Ends(refusal)),
+    };
     match name_stage(source, known, first, second) {
         Next::Goes(named) => Ok(count_stage(named)),
         Next::Ends(refusal) => Ok(Next::Ends(refusal)),
@@ -181,9 +206,11 @@ pub(crate) fn named_text(
 }
 
 /// What the front end says of a text, two names and a precondition, if there is one; fails only if
-/// out of memory.
+/// out of memory. Of 32-bit integers a number of the text above 2147483647 refuses it, also in a
+/// function that isn't asked for; the numbers of the precondition are any.
 pub fn compared_functions(
     alloc: Global,
+    integers: Integers,
     source: &[u8],
     first: &str,
     second: &str,
@@ -191,11 +218,11 @@ pub fn compared_functions(
 ) -> Result<Next<Refusal, Compared>, NoMemory>
     requires source { length source.now ≤ 1048576 }
     requires precondition { MatchOption precondition ⊤ (λ bytes. length bytes.now ≤ 1048576) }
-    ensures front { IfOk result (whole_front source.now first.now second.now
+    ensures front { IfOk result (whole_front integers source.now first.now second.now
         (bytes_of precondition.entry)) }
     ensures sayable { IfOk result IsSayableNext }
 {
-    match named_text(alloc, source, first, second)? {
+    match named_text(alloc, integers, source, first, second)? {
         Next::Goes(named) => condition(alloc, source, named, precondition),
         Next::Ends(refusal) => Ok(Next::Ends(refusal)),
     }

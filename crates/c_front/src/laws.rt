@@ -1,5 +1,6 @@
 //! Laws of what the front end says.
 ghost use Rattle.std.specs.Prelude.{◌≡◌, ◌↔◌, ℕ, List, Option};
+ghost use Rattle.c_ast.specs.declared.integers.Integers.{Integers};
 ghost use Rattle.c_front.specs.Conditions.{whole_front};
 ghost use Rattle.c_front.specs.Front.{front};
 ghost use Rattle.c_front.specs.FrontEnd.{IsReading};
@@ -12,9 +13,10 @@ ghost use Rattle.c_front.specs.declared.stages.Next.{Next};
 /// answer on the names comes exactly where its cause holds, as a fact of the text (`causes`). A
 /// law; it does nothing.
 pub fn a_text_has_one_answer()
-    ensures one { (source first second : List ℕ) (pre : Option (List ℕ))
-        (x y : Next Refusal Compared) → whole_front source first second pre x →
-        whole_front source first second pre y → x ≡ y }
-    ensures causes { (source first second : List ℕ) (x : Next Refusal TwoFunctions) →
-        front source first second x ↔ IsReading source first second x }
+    ensures one { (integers : Integers) (source first second : List ℕ) (pre : Option (List ℕ))
+        (x y : Next Refusal Compared) → whole_front integers source first second pre x →
+        whole_front integers source first second pre y → x ≡ y }
+    ensures causes { (integers : Integers) (source first second : List ℕ)
+        (x : Next Refusal TwoFunctions) →
+        front integers source first second x ↔ IsReading integers source first second x }
 {}

@@ -9,6 +9,7 @@
 mod conditions;
 mod front_end;
 mod laws;
+mod literals;
 mod pairs;
 mod refusals;
 mod stages;
@@ -16,6 +17,7 @@ mod texts;
 
 pub use front_end::compared_functions;
 pub use laws::a_text_has_one_answer;
+pub use literals::wide_literal;
 pub use pairs::{Compared, TwoFunctions};
 pub use refusals::Refusal;
 pub use rx_plain::NoMemory;

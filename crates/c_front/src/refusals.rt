@@ -12,6 +12,8 @@ pub enum Refusal {
     Parse(ParseEnd),
     /// Its program isn't well formed.
     Scope(ScopeEnd),
+    /// Its number at this token is above 2147483647, and 32-bit integers are asked for.
+    WideLiteral(u32),
     /// No function has the first name, which is 1, or else the second, which is 2.
     NoFunction(u8),
     /// The two functions have different numbers of parameters, which these are.

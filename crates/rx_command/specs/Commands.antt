@@ -1,9 +1,12 @@
 -- What the words of a command line ask for.
-use Rattle.std.specs.Prelude.{ℕ, Bool, true, false, ◌&&◌, if◌then◌else◌, nat_le, Option, Some, None, is_none, List, [], ◌∷◌, length, codes, option_map}
+use Rattle.std.specs.Prelude.{ℕ, Bool, true, false, not, ◌&&◌, if◌then◌else◌, nat_le, Option, Some, None, is_none, List, [], ◌∷◌, length, codes, option_map}
 use Rattle.std.specs.Borrow.{Bor}
+use Rattle.std.specs.Option.{option_map_or}
 use Rattle.std.specs.Str.{bytes_eq}
 use Rattle.clap.specs.Kinds.{Kinds}
 use Rattle.clap.specs.Words.{Row, fault_of, first_of, matches_of}
+use Rattle.c_ast.specs.declared.integers.Integers.{Integers}
+use Rattle.c_ast.specs.declared.integers.Integers.TheVariants.{Unbounded, Bits32}
 use Rattle.rx_command.specs.App.{command_app}
 use Rattle.rx_command.specs.Numbers.{number_of}
 use Rattle.rx_command.specs.declared.command.Command as code
@@ -16,8 +19,9 @@ use Rattle.rx_command.specs.declared.command.Functions as code_functions
 use Rattle.rx_command.specs.declared.command.Induction as code_induction
 use Rattle.rx_command.specs.declared.command.Induction.TheVariants as task
 
--- two functions of a file, and a precondition on their arguments
+-- two functions of a file, by a kind of integers, and a precondition on their arguments
 pub record Functions : Type 0 where
+  pub integers : Integers
   pub file : List ℕ
   pub first : List ℕ
   pub second : List ℕ
@@ -30,8 +34,8 @@ pub data Comparison : Type 0 where
   Check : Functions → List ℕ → Comparison
   Refute : Functions → Extent → Comparison
 
--- to search for a proof of the equation of the rule text in a file, or to replay the proof in the log
--- with the second name
+-- to search for a proof of the equation of the rule text in a file, or to replay the proof in the
+-- log with the second name
 pub data Induction : Type 0 where
   Find : List ℕ → Effort → Induction
   Replay : List ℕ → List ℕ → Induction
@@ -54,26 +58,33 @@ abbrev pub is_short : Option (List ℕ) → Bool
 is_short None = true
 is_short (Some text) = nat_le (length text) longest_precondition
 
+-- 32-bit integers are asked for; `clap` gives the flag the value `true` or `false`
+abbrev pub is_narrow : List Row → Bool
+is_narrow rows =
+    option_map_or (λ text. bytes_eq text (codes "true")) (first_of (codes "int32") rows) false
+
+abbrev pub integers_of : List Row → Integers
+integers_of rows = if is_narrow rows then Bits32 else Unbounded
+
 -- two functions of a file, where all three words are there and the precondition isn't too long
-abbrev pub named : Option (List ℕ) → Option (List ℕ) → Option (List ℕ) → Option (List ℕ) →
-    Option Functions
-named None first second pre = None
-named (Some file) None second pre = None
-named (Some file) (Some first) None pre = None
-named (Some file) (Some first) (Some second) pre =
+abbrev pub named : Integers → Option (List ℕ) → Option (List ℕ) → Option (List ℕ) →
+    Option (List ℕ) → Option Functions
+named integers None first second pre = None
+named integers (Some file) None second pre = None
+named integers (Some file) (Some first) None pre = None
+named integers (Some file) (Some first) (Some second) pre =
     if is_short pre then Some (record {
+      integers = integers;
       file = file;
       first = first;
       second = second;
-      precondition =
-          pre;
+      precondition = pre;
     }) else None
 
 abbrev pub functions_of : List Row → Option Functions
 functions_of rows =
-    named (first_of (codes "file") rows) (first_of (codes "first") rows)
-    (first_of (codes "second") rows)
-    (first_of (codes "pre") rows)
+    named (integers_of rows) (first_of (codes "file") rows) (first_of (codes "first") rows)
+    (first_of (codes "second") rows) (first_of (codes "pre") rows)
 
 -- a number between two, or the usual one where nothing is given
 abbrev pub number_or : ℕ → ℕ → ℕ → Option (List ℕ) → Option ℕ
@@ -108,17 +119,19 @@ extent_of rows =
 abbrev pub prove_of : Option Functions → Option Effort → Option (List ℕ) → Option Command
 prove_of None effort log = None
 prove_of (Some functions) None log = None
-prove_of (Some functions) (Some effort) None = Some (Compare (Prove functions effort))
+prove_of (Some functions) (Some effort) None =
+    Some (Compare (Prove functions effort))
 prove_of (Some functions) (Some effort) (Some log) = None
 
 -- `check` takes a log, and neither depth nor budget
-abbrev pub check_of : Option Functions → Option (List ℕ) → Option (List ℕ) → Option (List ℕ) →
-    Option Command
+abbrev pub check_of : Option Functions → Option (List ℕ) → Option (List ℕ) →
+    Option (List ℕ) → Option Command
 check_of None log depth budget = None
 check_of (Some functions) None depth budget = None
 check_of (Some functions) (Some log) (Some depth) budget = None
 check_of (Some functions) (Some log) None (Some budget) = None
-check_of (Some functions) (Some log) None None = Some (Compare (Check functions log))
+check_of (Some functions) (Some log) None None =
+    Some (Compare (Check functions log))
 
 -- `refute` takes no log
 abbrev pub refute_of : Option Functions → Option Extent → Option (List ℕ) → Option Command
@@ -163,18 +176,27 @@ has_no_effort rows = is_absent (codes "depth") rows && is_absent (codes "budget"
 abbrev pub has_no_extent : List Row → Bool
 has_no_extent rows = is_absent (codes "box") rows && is_absent (codes "rounds") rows
 
+-- the integers aren't those of 32 bits, and there is neither a depth nor a budget
+abbrev pub has_extent_alone : List Row → Bool
+has_extent_alone rows = not (is_narrow rows) && has_no_effort rows
+
 -- none of these four
 abbrev pub has_no_numbers : List Row → Bool
 has_no_numbers rows = has_no_effort rows && has_no_extent rows
 
-abbrev pub has_no_options : List Row → Bool
-has_no_options rows = is_absent (codes "pre") rows && has_no_numbers rows
+-- nor 32-bit integers
+abbrev pub has_functions_alone : List Row → Bool
+has_functions_alone rows = not (is_narrow rows) && has_no_numbers rows
 
--- no second function, no further log, no precondition, and neither a box nor rounds
+abbrev pub has_no_options : List Row → Bool
+has_no_options rows = is_absent (codes "pre") rows && has_functions_alone rows
+
+-- no second function, no further log, no precondition, no 32-bit integers, and neither a box nor
+-- rounds
 abbrev pub has_rules_alone : List Row → Bool
 has_rules_alone rows =
     is_absent (codes "second") rows && (is_absent (codes "log") rows &&
-    (is_absent (codes "pre") rows && has_no_extent rows))
+    (is_absent (codes "pre") rows && (not (is_narrow rows) && has_no_extent rows)))
 
 -- the modes that compare nothing
 abbrev pub after_comparisons : List ℕ → List Row → Option Command
@@ -182,22 +204,23 @@ after_comparisons mode rows =
     if bytes_eq mode (codes "rules") && has_rules_alone rows
     then rules_of (first_of (codes "file") rows) (first_of (codes "first") rows)
     (has_no_effort rows) (effort_of rows)
-    else (if bytes_eq mode (codes "translate") && has_no_numbers rows
+    else (if bytes_eq mode (codes "translate") && has_functions_alone rows
     then translate_of (functions_of rows) (first_of (codes "log") rows)
     else (if bytes_eq mode (codes "demo") && (has_no_more_words rows && has_no_options rows)
     then demo_of (first_of (codes "file") rows)
     else None))
 
--- a depth and a budget are of `prove` and `rules` alone, a box and rounds of `refute` alone
+-- a depth and a budget are of `prove` and `rules` alone, a box and rounds of `refute` alone, 32-bit
+-- integers of `prove` and `check` alone
 abbrev pub in_mode : Option (List ℕ) → List Row → Option Command
 in_mode None rows = None
 in_mode (Some mode) rows =
     if bytes_eq mode (codes "prove") && has_no_extent rows
     then prove_of (functions_of rows) (effort_of rows) (first_of (codes "log") rows)
     else (if bytes_eq mode (codes "check") && has_no_extent rows
-    then check_of (functions_of rows) (first_of (codes "log") rows) (first_of (codes "depth") rows)
-    (first_of (codes "budget") rows)
-    else (if bytes_eq mode (codes "refute") && has_no_effort rows
+    then check_of (functions_of rows) (first_of (codes "log") rows)
+    (first_of (codes "depth") rows) (first_of (codes "budget") rows)
+    else (if bytes_eq mode (codes "refute") && has_extent_alone rows
     then refute_of (functions_of rows) (extent_of rows) (first_of (codes "log") rows)
     else after_comparisons mode rows))
 
@@ -221,6 +244,7 @@ bytes_of = option_map (λ text. text.now)
 
 abbrev pub functions_view : code_functions.Functions → Functions
 functions_view f = record {
+  integers = f.integers;
   file = f.file.now;
   first = f.first.now;
   second = f.second.now;

@@ -1,5 +1,6 @@
 -- Some command lines, and what they ask for.
 use Rattle.std.specs.Prelude.{ℕ, Some, None, List, [], ◌∷◌, ◌++◌, codes}
+use Rattle.c_ast.specs.declared.integers.Integers.TheVariants.{Unbounded, Bits32}
 use Rattle.rx_command.specs.Commands.{Command, Functions, Compare, Prove, Check, Refute, Rules, Find, Replay, Translate}
 
 abbrev pub no_words : List (List ℕ)
@@ -11,7 +12,13 @@ prove_words = codes "ctrl" ∷ codes "prove" ∷ codes "f.c" ∷ codes "up" ∷ 
 
 abbrev pub up_and_rec : Functions
 up_and_rec =
-    record { file = codes "f.c"; first = codes "up"; second = codes "rec"; precondition = None }
+    record {
+      integers = Unbounded;
+      file = codes "f.c";
+      first = codes "up";
+      second = codes "rec";
+      precondition = None;
+    }
 
 abbrev pub prove_usual : Command
 prove_usual = Compare (Prove up_and_rec (record { depth = 5; budget = 100000 }))
@@ -148,3 +155,50 @@ long_demo_words = codes "ctrl" ∷ codes "demo" ∷ codes "101" ∷ []
 -- ctrl demo 7 --depth 4
 abbrev pub deep_demo_words : List (List ℕ)
 deep_demo_words = codes "ctrl" ∷ codes "demo" ∷ codes "7" ∷ codes "--depth" ∷ codes "4" ∷ []
+
+abbrev pub narrow_up_and_rec : Functions
+narrow_up_and_rec = record up_and_rec { integers = Bits32 }
+
+-- ctrl prove f.c up rec --int32 --depth 3
+abbrev pub narrow_words : List (List ℕ)
+narrow_words = prove_words ++ codes "--int32" ∷ codes "--depth" ∷ codes "3" ∷ []
+
+abbrev pub prove_narrow : Command
+prove_narrow = Compare (Prove narrow_up_and_rec (record { depth = 3; budget = 100000 }))
+
+-- ctrl --int32 check f.c up rec f.log
+abbrev pub first_narrow_words : List (List ℕ)
+first_narrow_words =
+    codes "ctrl" ∷ codes "--int32" ∷ codes "check" ∷ codes "f.c" ∷ codes "up" ∷ codes "rec" ∷
+    codes "f.log" ∷ []
+
+-- ctrl check f.c up rec f.log --int32
+abbrev pub narrow_check_words : List (List ℕ)
+narrow_check_words = check_words ++ codes "--int32" ∷ []
+
+abbrev pub check_narrow : Command
+check_narrow = Compare (Check narrow_up_and_rec (codes "f.log"))
+
+-- ctrl prove f.c up rec --int32 --int32
+abbrev pub twice_narrow_words : List (List ℕ)
+twice_narrow_words = prove_words ++ codes "--int32" ∷ codes "--int32" ∷ []
+
+-- ctrl prove f.c up rec --int32=true
+abbrev pub value_narrow_words : List (List ℕ)
+value_narrow_words = prove_words ++ codes "--int32=true" ∷ []
+
+-- ctrl refute f.c up rec --int32
+abbrev pub narrow_refute_words : List (List ℕ)
+narrow_refute_words = refute_words ++ codes "--int32" ∷ []
+
+-- ctrl rules f.rules --int32
+abbrev pub narrow_rules_words : List (List ℕ)
+narrow_rules_words = rules_words ++ codes "--int32" ∷ []
+
+-- ctrl translate f.c up rec --int32
+abbrev pub narrow_translate_words : List (List ℕ)
+narrow_translate_words = translate_words ++ codes "--int32" ∷ []
+
+-- ctrl demo 100 --int32
+abbrev pub narrow_demo_words : List (List ℕ)
+narrow_demo_words = demo_words ++ codes "--int32" ∷ []

@@ -6,14 +6,17 @@ ghost use Rattle.rx_command.specs.Commands.{bytes_of, command_view, functions_vi
 
 use crate::app::command_app;
 use crate::numbers::number_of;
+use c_ast::Integers;
 use clap::ArgMatches;
 use clap::error::ErrorKind;
 use rx_plain::NoMemory;
 use std::alloc::Global;
 
-/// Two functions of a file, and a precondition on their arguments.
+/// Two functions of a file, by a kind of integers, and a precondition on their arguments.
 #[derive(Clone, Copy)]
 pub struct Functions<'a> {
+    /// The integers that `int` is read as. In a comparison by runs they are the mathematical ones.
+    pub integers: Integers,
     /// The file's name.
     pub file: &'a str,
     /// The name of the first function.
@@ -83,18 +86,40 @@ fn given<'a>(matches: &ArgMatches<'a>, id: &str) -> Option<&'a str>
     matches.get_str(id)
 }
 
+/// Whether 32-bit integers are asked for.
+fn is_narrow(matches: &ArgMatches<'_>) -> bool
+    ensures { result ≡ spec.is_narrow (rows_of (found_of matches.now)) }
+{
+    match given(matches, "int32") {
+        Some(text) => text == "true",
+        None => false,
+    }
+}
+
+/// The kind of integers.
+fn integers_of(matches: &ArgMatches<'_>) -> Integers
+    ensures { result ≡ spec.integers_of (rows_of (found_of matches.now)) }
+{
+    if is_narrow(matches) {
+        Integers::Bits32
+    } else {
+        Integers::Unbounded
+    }
+}
+
 /// The longest precondition, in bytes.
 const LONGEST_PRECONDITION: usize = 1_048_576;
 
 /// Two functions of a file, where all is given.
 fn named<'a>(
+    integers: Integers,
     file: Option<&'a str>,
     first: Option<&'a str>,
     second: Option<&'a str>,
     precondition: Option<&'a str>,
 ) -> Option<Functions<'a>>
     ensures { option_map functions_view result ≡
-        spec.named (bytes_of file.entry) (bytes_of first.entry) (bytes_of second.entry)
+        spec.named integers (bytes_of file.entry) (bytes_of first.entry) (bytes_of second.entry)
         (bytes_of precondition.entry) }
 {
     let file = file?;
@@ -106,6 +131,7 @@ fn named<'a>(
         }
     }
     Some(Functions {
+        integers,
         file,
         first,
         second,
@@ -121,7 +147,8 @@ fn functions_of<'a>(matches: &ArgMatches<'a>) -> Option<Functions<'a>>
     let file = given(matches, "file");
     let first = given(matches, "first");
     let second = given(matches, "second");
-    named(file, first, second, given(matches, "pre"))
+    let precondition = given(matches, "pre");
+    named(integers_of(matches), file, first, second, precondition)
 }
 
 /// A number between two, or the usual one where nothing is given.
@@ -226,6 +253,13 @@ fn has_no_effort(matches: &ArgMatches<'_>) -> bool
     is_absent(matches, "depth") && is_absent(matches, "budget")
 }
 
+/// Whether the integers aren't those of 32 bits, and neither a depth nor a budget is given.
+fn has_extent_alone(matches: &ArgMatches<'_>) -> bool
+    ensures { result ≡ spec.has_extent_alone (rows_of (found_of matches.now)) }
+{
+    !is_narrow(matches) && has_no_effort(matches)
+}
+
 /// Whether neither a box nor rounds are given.
 fn has_no_extent(matches: &ArgMatches<'_>) -> bool
     ensures { result ≡ spec.has_no_extent (rows_of (found_of matches.now)) }
@@ -240,21 +274,29 @@ fn has_no_numbers(matches: &ArgMatches<'_>) -> bool
     has_no_effort(matches) && has_no_extent(matches)
 }
 
+/// Whether neither a number nor 32-bit integers are given.
+fn has_functions_alone(matches: &ArgMatches<'_>) -> bool
+    ensures { result ≡ spec.has_functions_alone (rows_of (found_of matches.now)) }
+{
+    !is_narrow(matches) && has_no_numbers(matches)
+}
+
 /// Whether no option is given.
 fn has_no_options(matches: &ArgMatches<'_>) -> bool
     ensures { result ≡ spec.has_no_options (rows_of (found_of matches.now)) }
 {
-    is_absent(matches, "pre") && has_no_numbers(matches)
+    is_absent(matches, "pre") && has_functions_alone(matches)
 }
 
-/// Whether there is no second function, no further log, no precondition, and neither a box nor
-/// rounds.
+/// Whether there is no second function, no further log, no precondition, no 32-bit integers, and
+/// neither a box nor rounds.
 fn has_rules_alone(matches: &ArgMatches<'_>) -> bool
     ensures { result ≡ spec.has_rules_alone (rows_of (found_of matches.now)) }
 {
     is_absent(matches, "second")
         && is_absent(matches, "log")
         && is_absent(matches, "pre")
+        && !is_narrow(matches)
         && has_no_extent(matches)
 }
 
@@ -310,7 +352,7 @@ fn after_comparisons<'a>(mode: &str, matches: &ArgMatches<'a>) -> Option<Command
         let file = given(matches, "file");
         let log = given(matches, "first");
         rules_of(file, log, has_no_effort(matches), effort_of(matches))
-    } else if mode == "translate" && has_no_numbers(matches) {
+    } else if mode == "translate" && has_functions_alone(matches) {
         translate_of(functions_of(matches), given(matches, "log"))
     } else if mode == "demo" && has_no_more_words(matches) && has_no_options(matches) {
         demo_of(given(matches, "file"))
@@ -331,7 +373,7 @@ fn in_mode<'a>(mode: &str, matches: &ArgMatches<'a>) -> Option<Command<'a>>
         let depth = given(matches, "depth");
         let budget = given(matches, "budget");
         check_of(functions_of(matches), given(matches, "log"), depth, budget)
-    } else if mode == "refute" && has_no_effort(matches) {
+    } else if mode == "refute" && has_extent_alone(matches) {
         let log = given(matches, "log");
         refute_of(functions_of(matches), extent_of(matches), log)
     } else {

@@ -40,6 +40,7 @@ abbrev pub place_of : Verdict → Option Place
 place_of (Said.Lex fault) = Some (OfFault fault)
 place_of (Said.Parse end) = token_of_parse end
 place_of (Said.Scope end) = token_of_scope end
+place_of (Said.WideLiteral token) = Some (OfToken token)
 place_of (Said.PreLex fault) = Some (OfFault fault)
 place_of (Said.PreParse end) = token_of_parse end
 place_of (Said.PreName token) = Some (OfToken token)

@@ -1,5 +1,7 @@
 -- The message on a run that isn't a plain yes.
 use Rattle.std.specs.Prelude.{Bool, true, false, ℕ, ◌-◌, ◌==◌, List, [], ◌++◌, codes, decimal, length, take, drop, Option, Some, None, option_map, if◌then◌else◌}
+use Rattle.c_ast.specs.declared.integers.Integers.{Integers}
+use Rattle.c_ast.specs.declared.integers.Integers.TheVariants.{Unbounded, Bits32}
 use Rattle.rx_command.specs.Commands.{Functions}
 use Rattle.rx_report.specs.Ends.{status_of}
 use Rattle.rx_report.specs.Texts as report
@@ -12,7 +14,7 @@ use Rattle.rx_places.specs.Pieces.{quoted}
 use Rattle.rx_places.specs.Places.{column_of, line_of}
 use Rattle.rx_places.specs.declared.spots.Spot.{Spot}
 use Rattle.rx_messages.specs.declared.faults.Place.{Place}
-use Rattle.rx_messages.specs.Asked.{Asked, call, condition_of, file_name, file_of}
+use Rattle.rx_messages.specs.Asked.{Asked, call, call_of, condition_of, file_name, file_of}
 use Rattle.rx_messages.specs.Faults.{is_about_pre, place_of, spot_at}
 use Rattle.rx_messages.specs.Logs.{Facts, log_text, number_text}
 use Rattle.rx_messages.specs.Remarks.{is_about_log, mode_after, rule_line_of, tries_of, words_of}
@@ -85,10 +87,16 @@ remark_name asked verdict facts =
 abbrev pub advice_line : List ℕ → List ℕ → List ℕ
 advice_line calls words = codes "  try: " ++ (calls ++ (words ++ codes "\n"))
 
--- the call that compares the functions in another mode, where there is one
+-- the call that compares the functions in another mode; of 32-bit integers, which that mode doesn't
+-- read, what was asked by the others
+abbrev pub call_by : Integers → List ℕ → Functions → List ℕ
+call_by Unbounded mode f = call_of mode f
+call_by Bits32 mode f = codes "the same without --int32; "
+
 abbrev pub call_after : Option (List ℕ) → Option Functions → List ℕ
 call_after None functions = []
-call_after (Some mode) functions = call mode functions
+call_after (Some mode) None = []
+call_after (Some mode) (Some f) = call_by f.integers mode f
 
 -- advice after a report, where there is any
 abbrev pub advice_with : List ℕ → Option (List ℕ) → List ℕ
@@ -112,9 +120,10 @@ usage =
     ++ (codes "  a proof:          ctrl prove examples/sum.c up rec\n"
     ++ (codes "  a replay:         ctrl check examples/sum.c up rec examples/sum.log\n"
     ++ (codes "  a counterexample: ctrl refute examples/twice.c twice same\n"
+    ++ (codes "  32-bit integers:  ctrl prove examples/order.c less minus --int32\n"
     ++ (codes "  written rules:    ctrl rules examples/sum.rules\n"
     ++ (codes "  rules of C:       ctrl translate examples/sum.c up rec\n"
-    ++ codes "  some examples:    ctrl demo 10\n")))))
+    ++ codes "  some examples:    ctrl demo 10\n"))))))
 
 -- ---- reports that are no line of a verdict
 

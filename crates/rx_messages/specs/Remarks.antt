@@ -61,6 +61,7 @@ words_of Said.LongLog = codes "the log has more than 67108864 bytes"
 words_of (Said.Lex fault) = words_of_fault fault
 words_of (Said.Parse end) = words_of_parse end
 words_of (Said.Scope end) = words_of_scope end
+words_of (Said.WideLiteral token) = codes " is above 2147483647, the greatest 32-bit integer"
 words_of (Said.NoFunction name) = codes " is no function of this file"
 words_of (Said.Arity first second) =
     codes "the two functions have different numbers of parameters"
@@ -91,7 +92,7 @@ tries_after_check (End.NotKept part) =
 tries_after_check (End.Step step end) = Some (codes "docs/STEPS.md, which says what each step asks")
 tries_after_check (End.Unfinished goals) = Some (codes "more steps")
 tries_after_check (End.NotCovered symbol) =
-    Some (codes "docs/LOG-FORMAT.md; a log is for two functions in their order, or for one rule text")
+    Some (codes "docs/LOG-FORMAT.md; a log is for two functions in their order, with --int32 or without it, or for one rule text")
 tries_after_check (End.BadRanks symbol) = Some (codes "another rank table")
 tries_after_check (End.NotLower pair) = Some (codes "another rank table")
 tries_after_check (End.Large place) = Some (codes "another proof")

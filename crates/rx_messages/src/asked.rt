@@ -128,8 +128,12 @@ fn push_names(out: &mut Vec<u8>, functions: &Functions<'_>) -> Result<(), NoMemo
     push_name(out, functions.second)
 }
 
-// Adds the words that compare the functions in the mode.
-fn push_call_of(out: &mut Vec<u8>, mode: &[u8], functions: &Functions<'_>) -> Result<(), NoMemory>
+/// Adds the words that compare the functions in the mode.
+pub(crate) fn push_call_of(
+    out: &mut Vec<u8>,
+    mode: &[u8],
+    functions: &Functions<'_>,
+) -> Result<(), NoMemory>
     ensures { OnOk result (out.new.items
         ≡ out.old.items ++ spec.call_of mode.now (functions_view functions.now)) }
 {

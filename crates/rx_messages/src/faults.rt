@@ -54,7 +54,7 @@ pub(crate) fn place_of(verdict: &Verdict) -> Option<Place>
         Verdict::Lex(fault) | Verdict::PreLex(fault) => Some(Place::OfFault(*fault)),
         Verdict::Parse(end) | Verdict::PreParse(end) => token_of_parse(*end),
         Verdict::Scope(end) => token_of_scope(*end),
-        Verdict::PreName(token) => Some(Place::OfToken(*token)),
+        Verdict::WideLiteral(token) | Verdict::PreName(token) => Some(Place::OfToken(*token)),
         _ => None,
     }
 }

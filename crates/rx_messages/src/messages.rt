@@ -9,10 +9,11 @@ ghost use Rattle.rx_messages.specs.Steps.{MakesSome, bytes_in};
 ghost use Rattle.rx_places.specs.Spots.{IsWithin};
 ghost use Rattle.rx_report.specs.Texts.{IsReportableVerdict};
 
-use crate::asked::{Asked, condition_of, file_of, push_call, push_file};
+use crate::asked::{Asked, condition_of, file_of, push_call, push_call_of, push_file};
 use crate::faults::{Place, is_about_pre, place_of, spot_at};
 use crate::logs::{Facts, push_line_number, push_log_text};
 use crate::remarks::{is_about_log, mode_after, rule_line_of, tries_of, words_of};
+use c_ast::Integers;
 use rx_command::Functions;
 use rx_places::{
     NoMemory, Spot, column_of, line_of, push_excerpt, push_number, push_quoted, push_word,
@@ -193,7 +194,20 @@ fn push_remark_name(
     }
 }
 
-// Adds the call that compares the functions in another mode, where there is one.
+// Adds the call that compares the functions in another mode; of 32-bit integers, which that mode
+// doesn't read, what was asked by the others.
+fn push_call_by(out: &mut Vec<u8>, mode: &[u8], functions: &Functions<'_>) -> Result<(), NoMemory>
+    ensures { OnOk result (out.new.items
+        ≡ out.old.items ++ spec.call_by functions.now.integers mode.now
+        (functions_view functions.now)) }
+{
+    match functions.integers {
+        Integers::Unbounded => push_call_of(out, mode, functions),
+        Integers::Bits32 => push_word(out, b"the same without --int32; "),
+    }
+}
+
+// Adds that call, where there is one.
 fn push_call_after(
     out: &mut Vec<u8>,
     mode: Option<&[u8]>,
@@ -202,9 +216,9 @@ fn push_call_after(
     ensures { OnOk result (out.new.items
         ≡ out.old.items ++ spec.call_after (bytes_in mode.entry) (asked_view asked.now).functions) }
 {
-    match mode {
-        Some(mode) => push_call(out, mode, asked),
-        None => Ok(()),
+    match (mode, &asked.functions) {
+        (Some(mode), Some(functions)) => push_call_by(out, mode, functions),
+        _ => Ok(()),
     }
 }
 
@@ -266,6 +280,10 @@ fn usage(alloc: Global) -> Result<Vec<u8>, NoMemory>
     push_word(
         &mut out,
         b"  a counterexample: ctrl refute examples/twice.c twice same\n",
+    )?;
+    push_word(
+        &mut out,
+        b"  32-bit integers:  ctrl prove examples/order.c less minus --int32\n",
     )?;
     push_word(
         &mut out,

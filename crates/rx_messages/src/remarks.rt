@@ -82,6 +82,7 @@ pub(crate) fn words_of(verdict: &Verdict) -> &'static [u8]
         Verdict::Lex(fault) | Verdict::PreLex(fault) => words_of_fault(*fault),
         Verdict::Parse(end) | Verdict::PreParse(end) => words_of_parse(*end),
         Verdict::Scope(end) => words_of_scope(*end),
+        Verdict::WideLiteral(_) => b" is above 2147483647, the greatest 32-bit integer",
         Verdict::NoFunction(_) => b" is no function of this file",
         Verdict::Arity(_, _) => b"the two functions have different numbers of parameters",
         Verdict::PreName(_) => b" is no parameter of the first function",
@@ -115,7 +116,7 @@ fn tries_after_check(end: CheckEnd) -> Option<&'static [u8]>
         CheckEnd::Unfinished { .. } => Some(b"more steps"),
         CheckEnd::NotCovered { .. } => {
             Some(
-                b"docs/LOG-FORMAT.md; a log is for two functions in their order, or for one rule text",
+                b"docs/LOG-FORMAT.md; a log is for two functions in their order, with --int32 or without it, or for one rule text",
             )
         }
         CheckEnd::BadRanks { .. } | CheckEnd::NotLower { .. } => Some(b"another rank table"),

@@ -44,6 +44,7 @@ status_of Said.LongLog = Ends.Refused
 status_of (Said.Lex fault) = Ends.Refused
 status_of (Said.Parse end) = Ends.Refused
 status_of (Said.Scope end) = Ends.Refused
+status_of (Said.WideLiteral token) = Ends.Refused
 status_of (Said.NoFunction name) = Ends.Refused
 status_of (Said.Arity first second) = Ends.Refused
 status_of (Said.PreLex fault) = Ends.Refused

@@ -166,7 +166,7 @@ found_text (found.Alike points undecided) = alike_line points undecided
 abbrev pub usage_line : List ℕ
 usage_line =
     codes
-    "usage: ctrl MODE FILE [F] [G] [LOG] [--pre E] [--depth N] [--budget N] [--box N] [--rounds N]\n"
+    "usage: ctrl MODE FILE [F] [G] [LOG] [--pre E] [--depth N] [--budget N] [--box N] [--rounds N] [--int32]\n"
 
 -- the line of n examples, of which m are proved and k aren't
 abbrev pub counts_line : ℕ → ℕ → ℕ → List ℕ
@@ -189,6 +189,7 @@ text_of Said.LongLog = codes "REFUSED long log\n"
 text_of (Said.Lex fault) = lex_line fault
 text_of (Said.Parse end) = parse_line end
 text_of (Said.Scope end) = scope_line end
+text_of (Said.WideLiteral token) = place_line (codes "wide-literal") token
 text_of (Said.NoFunction name) = numbered_line (codes "REFUSED no-function ") name
 text_of (Said.Arity first second) = arity_line first second
 text_of (Said.PreLex fault) = pre_lex_line fault

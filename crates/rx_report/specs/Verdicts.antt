@@ -19,6 +19,7 @@ abbrev pub verdict_of : Refusal → Verdict
 verdict_of (Why.Lex fault) = Said.Lex fault
 verdict_of (Why.Parse end) = Said.Parse end
 verdict_of (Why.Scope end) = Said.Scope end
+verdict_of (Why.WideLiteral token) = Said.WideLiteral token
 verdict_of (Why.NoFunction name) = Said.NoFunction name
 verdict_of (Why.Arity m n) = Said.Arity m n
 verdict_of (Why.PreLex fault) = Said.PreLex fault

@@ -16,7 +16,7 @@ use crate::{NoMemory, Verdict};
 use std::alloc::{AllocError, Global};
 
 const USAGE: &str =
-    "usage: ctrl MODE FILE [F] [G] [LOG] [--pre E] [--depth N] [--budget N] [--box N] [--rounds N]\n";
+    "usage: ctrl MODE FILE [F] [G] [LOG] [--pre E] [--depth N] [--budget N] [--box N] [--rounds N] [--int32]\n";
 
 /// A line that ends in a number.
 fn numbered_line(alloc: Global, words: &str, number: usize) -> Result<String, AllocError>
@@ -59,6 +59,7 @@ fn line(alloc: Global, verdict: &Verdict) -> Result<String, AllocError>
         Verdict::Lex(fault) => lex_line(alloc, *fault),
         Verdict::Parse(end) => parse_line(alloc, *end),
         Verdict::Scope(end) => scope_line(alloc, *end),
+        Verdict::WideLiteral(token) => place_line(alloc, "wide-literal", *token),
         Verdict::NoFunction(name) => numbered_line(alloc, "REFUSED no-function ", *name as usize),
         Verdict::Arity(first, second) => arity_line(alloc, *first, *second),
         Verdict::PreLex(fault) => pre_lex_line(alloc, *fault),

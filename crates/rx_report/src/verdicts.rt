@@ -32,6 +32,9 @@ pub enum Verdict {
     Parse(ParseEnd),
     /// The program of the source isn't well formed.
     Scope(ScopeEnd),
+    /// The number at this token of the source, counted from 0, is above 2147483647, and 32-bit
+    /// integers are asked for.
+    WideLiteral(u32),
     /// No function has the first of the two names, which is 1, or else the second, which is 2.
     NoFunction(u8),
     /// The two functions have different numbers of parameters, which these are.
@@ -112,6 +115,7 @@ impl Verdict {
             | Verdict::Lex(_)
             | Verdict::Parse(_)
             | Verdict::Scope(_)
+            | Verdict::WideLiteral(_)
             | Verdict::NoFunction(_)
             | Verdict::Arity(_, _)
             | Verdict::PreLex(_)
@@ -143,6 +147,7 @@ impl From<Refusal> for Verdict {
             Refusal::Lex(fault) => Verdict::Lex(fault),
             Refusal::Parse(end) => Verdict::Parse(end),
             Refusal::Scope(end) => Verdict::Scope(end),
+            Refusal::WideLiteral(token) => Verdict::WideLiteral(token),
             Refusal::NoFunction(name) => Verdict::NoFunction(name),
             Refusal::Arity(first, second) => Verdict::Arity(first, second),
             Refusal::PreLex(fault) => Verdict::PreLex(fault),

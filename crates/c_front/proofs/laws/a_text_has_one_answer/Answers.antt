@@ -7,4 +7,7 @@ returns-clause-one c = one_compared
 
 pub returns-clause-causes : goal.returns-clause-causes
 returns-clause-causes c =
-    λ source first second x. (reading_of source first second x, front_of source first second x)
+    λ integers source first second x. (
+      reading_of integers source first second x,
+      front_of integers source first second x,
+    )

@@ -109,3 +109,39 @@ returns-clause-log_translate c = refl
 pub returns-clause-deep_translate : goal.returns-clause-deep_translate
 unfolding clap_on_literals
 returns-clause-deep_translate c = refl
+
+pub returns-clause-narrow : goal.returns-clause-narrow
+unfolding clap_on_literals
+returns-clause-narrow c = refl
+
+pub returns-clause-narrow_check : goal.returns-clause-narrow_check
+unfolding clap_on_literals
+returns-clause-narrow_check c = refl
+
+pub returns-clause-twice_narrow : goal.returns-clause-twice_narrow
+unfolding clap_on_literals
+returns-clause-twice_narrow c = refl
+
+pub returns-clause-value_narrow : goal.returns-clause-value_narrow
+unfolding clap_on_literals
+returns-clause-value_narrow c = refl
+
+pub returns-clause-narrow_refute : goal.returns-clause-narrow_refute
+unfolding clap_on_literals
+returns-clause-narrow_refute c = refl
+
+pub returns-clause-narrow_rules : goal.returns-clause-narrow_rules
+unfolding clap_on_literals
+returns-clause-narrow_rules c = refl
+
+pub returns-clause-narrow_translate : goal.returns-clause-narrow_translate
+unfolding clap_on_literals
+returns-clause-narrow_translate c = refl
+
+pub returns-clause-narrow_demo : goal.returns-clause-narrow_demo
+unfolding clap_on_literals
+returns-clause-narrow_demo c = refl
+
+pub returns-clause-first_narrow : goal.returns-clause-first_narrow
+unfolding clap_on_literals
+returns-clause-first_narrow c = refl
