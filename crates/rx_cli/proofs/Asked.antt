@@ -6,12 +6,13 @@ use Rattle.std.specs.Str.Parse.{digits_value}
 use Rattle.std.proofs.lemmas.Bool.{leb-true}
 use Rattle.std.proofs.lemmas.Option.{none-some}
 use Rattle.c_front.proofs.Options.{same_some}
+use Rattle.c_ast.specs.declared.integers.Integers.{Integers}
 use Rattle.clap.specs.Kinds.{Kinds}
 use Rattle.clap.specs.Words.{Row, fault_of, first_of, matches_of}
 use Rattle.rx_command.specs.App.{command_app}
 use Rattle.rx_command.specs.declared.command.Effort.{Effort}
 use Rattle.rx_command.specs.declared.command.Extent.{Extent}
-use Rattle.rx_command.specs.Commands.{Check, Command, Compare, Comparison, Demo, Find, Functions, Prove, Refute, Replay, Rules, Translate, after_comparisons, both_numbers, check_of, command_of, effort_of, functions_of, if_taken, demo_of, extent_of, has_no_effort, has_no_extent, has_no_more_words, has_no_numbers, has_no_options, has_rules_alone, in_mode, is_short, named, number_or, prove_of, refute_of, rules_of, translate_of}
+use Rattle.rx_command.specs.Commands.{Check, Command, Compare, Comparison, Demo, Find, Functions, Prove, Refute, Replay, Rules, Translate, after_comparisons, both_numbers, check_of, command_of, effort_of, functions_of, if_taken, demo_of, extent_of, has_extent_alone, has_functions_alone, has_no_effort, has_no_extent, has_no_more_words, has_no_options, has_rules_alone, in_mode, integers_of, is_short, named, number_or, prove_of, refute_of, rules_of, translate_of}
 use Rattle.rx_command.specs.Numbers.{is_decimal, number_of}
 use Rattle.rx_cli.specs.Answers.{functions_in}
 use Rattle.rx_cli.specs.Steps.{IsNotDeep, IsInductionNotDeep}
@@ -20,14 +21,21 @@ use Rattle.rx_cli.specs.Steps.{IsNotDeep, IsInductionNotDeep}
 abbrev AreShort : Option Functions → Type 0
 AreShort o = (f : Functions) → o ≡ Some f → is_short f.precondition ≡ true
 
-named_short : (file first second pre : Option (List ℕ)) → AreShort (named file first second pre)
-named_short None first second pre f is = absurd (none-some _ is)
-named_short (Some file) None second pre f is = absurd (none-some _ is)
-named_short (Some file) (Some first) None pre f is = absurd (none-some _ is)
-named_short (Some file) (Some first) (Some second) pre f is = go (is_short pre) refl is
+named_short : (integers : Integers) (file first second pre : Option (List ℕ)) →
+    AreShort (named integers file first second pre)
+named_short integers None first second pre f is = absurd (none-some _ is)
+named_short integers (Some file) None second pre f is = absurd (none-some _ is)
+named_short integers (Some file) (Some first) None pre f is = absurd (none-some _ is)
+named_short integers (Some file) (Some first) (Some second) pre f is = go (is_short pre) refl is
   where
     whole : Functions
-    whole = record { file = file; first = first; second = second; precondition = pre }
+    whole = record {
+      integers = integers;
+      file = file;
+      first = first;
+      second = second;
+      precondition = pre;
+    }
 
     go : (b : Bool) → is_short pre ≡ b → (if b then Some whole else None) ≡ Some f →
         is_short f.precondition ≡ true
@@ -156,7 +164,7 @@ if_allowed false x y p q = q
 
 functions_short : (rows : List Row) → AreShort (functions_of rows)
 functions_short rows =
-    named_short (first_of (codes "file") rows) (first_of (codes "first") rows)
+    named_short (integers_of rows) (first_of (codes "file") rows) (first_of (codes "first") rows)
     (first_of (codes "second") rows) (first_of (codes "pre") rows)
 
 -- what each mode asks for
@@ -170,7 +178,7 @@ in_translate rows = translate_of (functions_of rows) (first_of (codes "log") row
 
 abbrev after_rules : List ℕ → List Row → Option Command
 after_rules mode rows =
-    if bytes_eq mode (codes "translate") && has_no_numbers rows then in_translate rows else
+    if bytes_eq mode (codes "translate") && has_functions_alone rows then in_translate rows else
     in_demo mode rows
 
 abbrev in_rules : List Row → Option Command
@@ -183,7 +191,7 @@ in_refute rows = refute_of (functions_of rows) (extent_of rows) (first_of (codes
 
 abbrev after_check : List ℕ → List Row → Option Command
 after_check mode rows =
-    if bytes_eq mode (codes "refute") && has_no_effort rows then in_refute rows else
+    if bytes_eq mode (codes "refute") && has_extent_alone rows then in_refute rows else
     after_comparisons mode rows
 
 abbrev in_check : List Row → Option Command
@@ -204,7 +212,7 @@ demo_mode_allowed mode rows =
 
 after_rules_allowed : (mode : List ℕ) (rows : List Row) → AllowsOnly (after_rules mode rows)
 after_rules_allowed mode rows =
-    if_allowed (bytes_eq mode (codes "translate") && has_no_numbers rows) (in_translate rows)
+    if_allowed (bytes_eq mode (codes "translate") && has_functions_alone rows) (in_translate rows)
     (in_demo mode rows)
     (translate_allowed (functions_of rows) (first_of (codes "log") rows) (functions_short rows))
     (demo_mode_allowed mode rows)
@@ -220,7 +228,7 @@ after_comparisons_allowed mode rows =
 
 after_check_allowed : (mode : List ℕ) (rows : List Row) → AllowsOnly (after_check mode rows)
 after_check_allowed mode rows =
-    if_allowed (bytes_eq mode (codes "refute") && has_no_effort rows) (in_refute rows)
+    if_allowed (bytes_eq mode (codes "refute") && has_extent_alone rows) (in_refute rows)
     (after_comparisons mode rows)
     (refute_allowed (functions_of rows) (extent_of rows) (first_of (codes "log") rows)
     (functions_short rows)) (after_comparisons_allowed mode rows)

@@ -26,6 +26,7 @@ pub status_refused : (refusal : Refusal) → status_of (verdict_of refusal) ≡ 
 status_refused (Why.Lex fault) = refl
 status_refused (Why.Parse end) = refl
 status_refused (Why.Scope end) = refl
+status_refused (Why.WideLiteral token) = refl
 status_refused (Why.NoFunction name) = refl
 status_refused (Why.Arity m n) = refl
 status_refused (Why.PreLex fault) = refl

@@ -86,6 +86,7 @@ lines_never_differ Said.LongLog e = cc
 lines_never_differ (Said.Lex fault) e = cc
 lines_never_differ (Said.Parse end) e = cc
 lines_never_differ (Said.Scope end) e = cc
+lines_never_differ (Said.WideLiteral token) e = cc
 lines_never_differ (Said.NoFunction name) e = cc
 lines_never_differ (Said.Arity first second) e = cc
 lines_never_differ (Said.PreLex fault) e = cc

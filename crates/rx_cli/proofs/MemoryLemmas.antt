@@ -43,6 +43,7 @@ never_cut_line Said.LongLog e = cc
 never_cut_line (Said.Lex fault) e = cc
 never_cut_line (Said.Parse end) e = cc
 never_cut_line (Said.Scope end) e = cc
+never_cut_line (Said.WideLiteral token) e = cc
 never_cut_line (Said.NoFunction name) e = cc
 never_cut_line (Said.Arity first second) e = cc
 never_cut_line (Said.PreLex fault) e = cc

@@ -8,6 +8,8 @@ use Rattle.c_front.proofs.OneCondition.{one_whole}
 use Rattle.c_front.proofs.StageLaws.{IsOne, one_before}
 use Rattle.c_front.specs.Front.{count_in}
 use Rattle.rx_check.proofs.Pairs.{one_verdict}
+use Rattle.c_ast.specs.declared.integers.Integers.{Integers}
+use Rattle.rx_code.specs.Bounds.{rows_in}
 use Rattle.rx_code.specs.Translation.{goal_at}
 use Rattle.rx_code.proofs.CodeLawsTranslations.{not_beyond, one_translation, translation_made}
 use Rattle.rx_command.specs.Commands.{Check, Command, Compare, Comparison, Demo, Find, Functions, Induction, Prove, Refute, Replay, Rules, Translate, command_of}
@@ -97,47 +99,55 @@ alike_lines P a b v w a_is b_is same =
 
 one_front_stage : (f : Functions) → IsOne (front_stage f)
 one_front_stage f source (Ends v) (Ends w) (r, p, v_is) (s, q, w_is) =
-    v_is ∙ (ap verdict_of (one_whole source f.first f.second f.precondition (Ends r) (Ends s) p q) ∙
+    v_is ∙ (ap verdict_of (one_whole f.integers source f.first f.second f.precondition (Ends r)
+    (Ends s) p q) ∙
     sym w_is)
 one_front_stage f source (Ends v) (Goes c) (r, p, v_is) q =
-    one_whole source f.first f.second f.precondition (Ends r) (Goes c) p q
+    one_whole f.integers source f.first f.second f.precondition (Ends r) (Goes c) p q
 one_front_stage f source (Goes c) (Ends w) p (s, q, w_is) =
-    one_whole source f.first f.second f.precondition (Goes c) (Ends s) p q
+    one_whole f.integers source f.first f.second f.precondition (Goes c) (Ends s) p q
 one_front_stage f source (Goes c) (Goes d) p q =
-    one_whole source f.first f.second f.precondition (Goes c) (Goes d) p q
+    one_whole f.integers source f.first f.second f.precondition (Goes c) (Goes d) p q
 
 no_both : (b : Bool) → b ≡ true → b ≡ false → ⊥
 no_both b holds fails = let e : true ≡ false = sym holds ∙ fails in cc
 
-one_problem : IsOne problem_stage
-one_problem c (Ends v) (Ends w) (inl (beyond, v_is)) (inl (again, w_is)) =
+one_problem : (integers : Integers) → IsOne (problem_stage integers)
+one_problem integers c (Ends v) (Ends w) (inl (beyond, v_is)) (inl (again, w_is)) =
     equal_verdicts v w Said.LargeTranslate v_is w_is
-one_problem c (Ends v) (Ends w) (inl (beyond, v_is)) (inr (t, within, w_is)) =
-    absurd (not_beyond c.two.program c.two.first c.two.second t.rules t.first t.second t.is beyond)
-one_problem c (Ends v) (Ends w) (inr (t, within, v_is)) (inl (beyond, w_is)) =
-    absurd (not_beyond c.two.program c.two.first c.two.second t.rules t.first t.second t.is beyond)
-one_problem c (Ends v) (Ends w) (inr (t, within, v_is)) (inr (u, again, w_is)) =
+one_problem integers c (Ends v) (Ends w) (inl (beyond, v_is)) (inr (t, within, w_is)) =
+    absurd (not_beyond integers c.two.program c.two.first c.two.second t.rules t.first t.second t.is
+    beyond)
+one_problem integers c (Ends v) (Ends w) (inr (t, within, v_is)) (inl (beyond, w_is)) =
+    absurd (not_beyond integers c.two.program c.two.first c.two.second t.rules t.first t.second t.is
+    beyond)
+one_problem integers c (Ends v) (Ends w) (inr (t, within, v_is)) (inr (u, again, w_is)) =
     equal_verdicts v w Said.LargePre v_is w_is
-one_problem c (Ends v) (Goes q) (inl (beyond, v_is)) is =
-    not_beyond c.two.program c.two.first c.two.second q.rules is.first is.second is.translated
+one_problem integers c (Ends v) (Goes q) (inl (beyond, v_is)) is =
+    not_beyond integers c.two.program c.two.first c.two.second q.rules is.first is.second
+    is.translated
     beyond
-one_problem c (Ends v) (Goes q) (inr (t, beyond, v_is)) is =
+one_problem integers c (Ends v) (Goes q) (inr (t, beyond, v_is)) is =
     no_both (rows_of c.precondition).within is.within beyond
-one_problem c (Goes q) (Ends w) is (inl (beyond, w_is)) =
-    not_beyond c.two.program c.two.first c.two.second q.rules is.first is.second is.translated
+one_problem integers c (Goes q) (Ends w) is (inl (beyond, w_is)) =
+    not_beyond integers c.two.program c.two.first c.two.second q.rules is.first is.second
+    is.translated
     beyond
-one_problem c (Goes q) (Ends w) is (inr (t, beyond, w_is)) =
+one_problem integers c (Goes q) (Ends w) is (inr (t, beyond, w_is)) =
     no_both (rows_of c.precondition).within is.within beyond
-one_problem c (Goes q) (Goes r) is too =
-    let same = one_translation c.two.program c.two.first c.two.second q.rules r.rules is.first
+one_problem integers c (Goes q) (Goes r) is too =
+    let same = one_translation integers c.two.program c.two.first c.two.second q.rules r.rules
+    is.first
     is.second too.first too.second is.translated too.translated in
     let goals : q.goal ≡ r.goal = is.goal
     ∙ ((λ i. goal_at (same.first_same i) (same.second_same i) (count_in c.two.program c.two.first)
-    (rows_of c.precondition).form) ∙ sym too.goal) in
+    (rows_in integers (count_in c.two.program c.two.first) (rows_of c.precondition).form)) ∙
+    sym too.goal) in
     λ i. record { rules = same.parts_same i; goal = goals i }
 
 pub one_asked : (f : Functions) → IsOne (asked f)
-one_asked f = one_before (front_stage f) problem_stage (one_front_stage f) one_problem
+one_asked f = one_before (front_stage f) (problem_stage f.integers) (one_front_stage f)
+    (one_problem f.integers)
 
 -- ---- rule texts
 
@@ -186,7 +196,8 @@ one_posed source (Goes q) (Goes r) (text, none) (again, too) =
 pub problem_made : (f : Functions) (source : List ℕ) (problem : Problem) →
     asked f source (Goes problem) → IsWellMade problem.rules
 problem_made f source problem (c, front, is) =
-    translation_made c.two.program (ready source f.first f.second f.precondition c front).scoped
+    translation_made f.integers c.two.program (ready f.integers source f.first f.second
+    f.precondition c front).scoped
     c.two.first c.two.second problem.rules is.first is.second is.translated
 
 module _ (problem : Problem) (made : IsWellMade problem.rules) (v w : Verdict) where

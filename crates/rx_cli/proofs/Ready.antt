@@ -4,6 +4,7 @@ use Rattle.std.specs.Prelude.{slice_get, option_map}
 use Rattle.std.proofs.lemmas.Option.{slice_get-map}
 use Rattle.c_front.proofs.Options.{same_some}
 use Rattle.c_ast.specs.declared.expr.Expr.{Expr}
+use Rattle.c_ast.specs.declared.integers.Integers.{Integers}
 use Rattle.c_ast.specs.declared.program.Function.{Function}
 use Rattle.c_ast.specs.Scoped.{parameter_counts}
 use Rattle.c_names.specs.Expressions.{count_at}
@@ -28,8 +29,9 @@ counted functions place f n there is =
     slice_get-map (λ (g : Function). length g.params) functions place
     ∙ (ap (option_map (λ (g : Function). length g.params)) there ∙ ap Some is)
 
-module _ (source first second : List ℕ) (two : TwoFunctions) (left right : Function)
-    (are : AreComparable source first second two left right) where
+module _ (integers : Integers) (source first second : List ℕ) (two : TwoFunctions)
+    (left right : Function)
+    (are : AreComparable integers source first second two left right) where
   first_count : length left.params ≡ count_in two.program two.first
   first_count = sym (ap count_at are.are_named.is_left)
 
@@ -49,23 +51,26 @@ module _ (source first second : List ℕ) (two : TwoFunctions) (left right : Fun
     row_form = form;
   }
 
-module _ (source first second : List ℕ) where
+module _ (integers : Integers) (source first second : List ℕ) where
   by_condition : (pre : Option (List ℕ)) (two : TwoFunctions) (compared : Compared) →
-      front source first second (Goes two) → condition_stage source pre two (Goes compared) →
+      front integers source first second (Goes two) →
+      condition_stage source pre two (Goes compared) →
       IsReady compared
   by_condition None two compared named is =
-      let (left, right, are) = reading_of source first second (Goes two) named in
-      subst IsReady (sym is) (comparable_ready source first second two left right are None tt)
+      let (left, right, are) = reading_of integers source first second (Goes two) named in
+      subst IsReady (sym is) (comparable_ready integers source first second two left right are None
+      tt)
   by_condition (Some bytes) two compared named
       (text, program, pre, (tokens, lexed, (read, (same, answers), resolved)), is) =
-      let (left, right, are) = reading_of source first second (Goes two) named in
+      let (left, right, are) = reading_of integers source first second (Goes two) named in
       let kept = row_form_kept source text.tokens (params_at text.program.functions two.first) bytes
       read.tokens read.pre pre resolved in
-      subst IsReady (sym is) (comparable_ready source first second two left right are (Some pre)
+      subst IsReady (sym is) (comparable_ready integers source first second two left right are
+      (Some pre)
       (kept ∙ answers.1.1))
 
   pub ready : (pre : Option (List ℕ)) (compared : Compared) →
-      whole_front source first second pre (Goes compared) → IsReady compared
+      whole_front integers source first second pre (Goes compared) → IsReady compared
   ready pre compared (two, named, condition) = by_condition pre two compared named condition
 
 -- such functions have equally many parameters

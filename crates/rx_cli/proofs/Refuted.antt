@@ -62,7 +62,7 @@ difference_refutes f source compared side rounds arguments first second front is
           same_count (slice_get two.program.functions two.first);
       meets =
           meets_always two.program compared.precondition rounds arguments
-          (ready source f.first f.second f.precondition compared front).row_form met;
+          (ready f.integers source f.first f.second f.precondition compared front).row_form met;
       first = meant first;
       second = meant second;
       first_returns = returns.first_returns;
@@ -71,14 +71,18 @@ difference_refutes f source compared side rounds arguments first second front is
     }
 
 -- functions that agree have no counterexample
-pub never_both : (f : Functions) (source : List ℕ) → Agrees source f → Refutes source f → ⊥
-never_both f source agrees refutes =
+pub never_both : (f : Functions) (source : List ℕ) → f.integers ≡ Unbounded → Agrees source f →
+    Refutes source f → ⊥
+never_both f source plain agrees refutes =
     let two = refutes.compared.two in
     let same : agrees.compared ≡ refutes.compared =
-    one_whole source f.first f.second f.precondition (Goes agrees.compared) (Goes refutes.compared)
+    one_whole f.integers source f.first f.second f.precondition (Goes agrees.compared)
+    (Goes refutes.compared)
     agrees.front refutes.front in
-    let are : AreAlike refutes.compared = subst AreAlike same agrees.alike in
-    let alike = are refutes.arguments refutes.count refutes.meets in
+    let are : AreAlike Unbounded refutes.compared =
+    subst (λ i. AreAlike i refutes.compared) plain
+    (subst (AreAlike f.integers) same agrees.alike) in
+    let alike = are refutes.arguments refutes.count tt refutes.meets in
     let firsts = one_outcome Unbounded two.program two.first refutes.arguments refutes.first
     alike.outcome
     refutes.first_returns alike.first in

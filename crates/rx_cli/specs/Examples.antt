@@ -1,6 +1,7 @@
 -- Examples: pairs of a loop and a recursion that add up the multiples of a number, and what comes
 -- of searches for proofs that both return the same.
 use Rattle.std.specs.Prelude.{◌≡◌, ◌<◌, ℕ, zero, suc, ◌+◌, true, false, if◌then◌else◌, None, List, [], ◌∷◌, ◌++◌, codes, ◌%◌, length, get_or}
+use Rattle.c_ast.specs.declared.integers.Integers.TheVariants.{Unbounded}
 use Rattle.rx_command.specs.Commands.{Functions}
 use Rattle.rx_command.specs.declared.command.Effort.{Effort}
 use Rattle.rx_report.specs.declared.answer.Answer.{Answer}
@@ -29,7 +30,14 @@ example_source k = example_text (digit k)
 
 -- its two functions
 abbrev pub example_functions : Functions
-example_functions = record { file = []; first = codes "u"; second = codes "r"; precondition = None }
+example_functions =
+    record {
+      integers = Unbounded;
+      file = [];
+      first = codes "u";
+      second = codes "r";
+      precondition = None;
+    }
 
 -- how far its search goes
 abbrev pub example_effort : Effort

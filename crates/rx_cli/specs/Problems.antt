@@ -3,6 +3,7 @@
 -- text as a stage: the problem that it poses is its rules and its equation.
 use Rattle.std.specs.Prelude.{◌≡◌, ◌⊎◌, true, false, ℕ, List, [], Option, Some, None}
 use Rattle.c_ast.specs.declared.expr.Expr.{Expr}
+use Rattle.c_ast.specs.declared.integers.Integers.{Integers}
 use Rattle.c_front.specs.declared.pairs.Compared.{Compared}
 use Rattle.c_front.specs.declared.refusals.Refusal.{Refusal}
 use Rattle.c_front.specs.declared.stages.Next.{Next}
@@ -19,6 +20,7 @@ use Rattle.rx_rulefile.specs.RuleTexts.{IsRuleText, first_unmade}
 use Rattle.rx_term.specs.declared.rule.Equation.{Equation}
 use Rattle.rx_term.specs.declared.rule_set.RuleParts.{RuleParts}
 use Rattle.rx_term.specs.declared.term.Sym.{Sym}
+use Rattle.rx_code.specs.Bounds.{rows_in}
 use Rattle.rx_code.specs.Preconditions.{pre_rows}
 use Rattle.rx_code.specs.Translation.{IsBeyond, IsTranslation, goal_at}
 use Rattle.rx_cli.specs.declared.problems.Problem.{Problem}
@@ -33,10 +35,11 @@ longest_source = 1048576
 -- the front end, whose refusals are verdicts
 abbrev pub front_stage : Functions → List ℕ → Next Verdict Compared → Type 0
 front_stage f source (Ends verdict) =
-    (refusal : Refusal) × whole_front source f.first f.second f.precondition (Ends refusal)
+    (refusal : Refusal) × whole_front f.integers source f.first f.second f.precondition
+    (Ends refusal)
     × (verdict ≡ verdict_of refusal)
 front_stage f source (Goes compared) =
-    whole_front source f.first f.second f.precondition (Goes compared)
+    whole_front f.integers source f.first f.second f.precondition (Goes compared)
 
 -- the rows of a precondition, none where there is none, and whether all that is formed for them
 -- keeps the limits
@@ -44,44 +47,49 @@ abbrev pub rows_of : Option Expr → Formed (List Row)
 rows_of None = pure []
 rows_of (Some pre) = pre_rows pre
 
--- the two functions have a translation
-pub record IsTranslated (compared : Compared) : Type 0 where
-  pub rules : RuleParts
-  pub first : Sym
-  pub second : Sym
-  pub is : IsTranslation compared.two.program compared.two.first compared.two.second rules first
-      second
+module _ (integers : Integers) where
+  -- the two functions have a translation
+  pub record IsTranslated (compared : Compared) : Type 0 where
+    pub rules : RuleParts
+    pub first : Sym
+    pub second : Sym
+    pub is :
+        IsTranslation integers compared.two.program compared.two.first compared.two.second rules
+        first second
 
--- the rules are the translation of both functions, and the goal says that their entries are equal
--- on as many variables as they have parameters, under the rows of the precondition
-pub record IsProblem (compared : Compared) (problem : Problem) : Type 0 where
-  pub first : Sym
-  pub second : Sym
-  pub translated :
-      IsTranslation compared.two.program compared.two.first compared.two.second problem.rules
-      first second
-  pub within : (rows_of compared.precondition).within ≡ true
-  pub goal :
-      problem.goal
-      ≡ goal_at first second (count_in compared.two.program compared.two.first)
-      (rows_of compared.precondition).form
+  -- the rules are the translation of both functions, and the goal says that their entries are equal
+  -- on as many variables as they have parameters, under the rows of the precondition and, of 32-bit
+  -- integers, those that each variable is one
+  pub record IsProblem (compared : Compared) (problem : Problem) : Type 0 where
+    pub first : Sym
+    pub second : Sym
+    pub translated :
+        IsTranslation integers compared.two.program compared.two.first compared.two.second
+        problem.rules first second
+    pub within : (rows_of compared.precondition).within ≡ true
+    pub goal :
+        problem.goal
+        ≡ goal_at first second (count_in compared.two.program compared.two.first)
+        (rows_in integers (count_in compared.two.program compared.two.first)
+        (rows_of compared.precondition).form)
 
--- the translation passes the limits; or else the rows of the precondition do; or else that is the
--- problem
-abbrev pub problem_stage : Compared → Next Verdict Problem → Type 0
-problem_stage compared (Ends verdict) =
-    (IsBeyond compared.two.program compared.two.first compared.two.second
-    × (verdict ≡ Said.LargeTranslate))
-    ⊎ (IsTranslated compared × ((rows_of compared.precondition).within ≡ false)
-    × (verdict ≡ Said.LargePre))
-problem_stage compared (Goes problem) = IsProblem compared problem
+  -- the translation passes the limits; or else the rows of the precondition do; or else that is the
+  -- problem
+  abbrev pub problem_stage : Compared → Next Verdict Problem → Type 0
+  problem_stage compared (Ends verdict) =
+      (IsBeyond integers compared.two.program compared.two.first compared.two.second
+      × (verdict ≡ Said.LargeTranslate))
+      ⊎ (IsTranslated compared × ((rows_of compared.precondition).within ≡ false)
+      × (verdict ≡ Said.LargePre))
+  problem_stage compared (Goes problem) = IsProblem compared problem
 
--- the problem that two functions of a text pose, or why there is none
+-- the problem that two functions of a text pose, by their kind of integers, or why there is none
 abbrev pub asked : Functions → List ℕ → Next Verdict Problem → Type 0
-asked f = before (front_stage f) problem_stage
+asked f = before (front_stage f) (problem_stage f.integers)
 
--- the problem that a rule text poses; or the first line with which no rule text begins; or the first
--- rule that isn't well made, where the number of rules stands for an equation that doesn't fit
+-- the problem that a rule text poses; or the first line with which no rule text begins; or the
+-- first rule that isn't well made, where the number of rules stands for an equation that doesn't
+-- fit
 abbrev pub posed : List ℕ → Next Verdict Problem → Type 0
 posed source (Ends verdict) =
     ((number : ℕ) × IsFirstBad rule_order source number × (verdict ≡ Said.RuleLine number))

@@ -60,10 +60,12 @@ IsRefuted f extent source answer =
 
 -- the text spells a well-formed program, the names are those of two of its functions, of equally
 -- many parameters, and on integers that meet the precondition both return, by the meaning of C over
--- the mathematical integers, other outcomes: other integers, or one of them the division error
+-- the mathematical integers, other outcomes: other integers, or one of them the division error. The
+-- text is read as the question has it, and a question that asks for runs is one of the mathematical
+-- integers
 pub record Refutes (source : List ℕ) (f : Functions) : Type 0 where
   pub compared : Compared
-  pub front : whole_front source f.first f.second f.precondition (Goes compared)
+  pub front : whole_front f.integers source f.first f.second f.precondition (Goes compared)
   pub arguments : List ℤ
   pub count : length arguments ≡ count_in compared.two.program compared.two.first
   pub meets : Meets compared.two.program compared.precondition arguments

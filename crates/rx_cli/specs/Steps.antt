@@ -3,6 +3,7 @@
 use Rattle.std.specs.Prelude.{◌≡◌, ◌≢◌, ◌<◌, ◌≤◌, ◌^◌, ◌⊎◌, length, true, false, ⊤, ℕ, Bool, List, Option, Some, None, Result, Ok, Err, Vec, map, slice_get, nat_lt, MatchBool}
 use Rattle.std.specs.List.{list_all}
 use Rattle.c_ast.specs.declared.expr.Expr.{Expr}
+use Rattle.c_ast.specs.declared.integers.Integers.{Integers}
 use Rattle.c_ast.specs.RowForms.{is_row_form}
 use Rattle.c_ast.specs.Scoped.{is_scoped, parameter_counts}
 use Rattle.c_front.specs.declared.pairs.Compared.{Compared}
@@ -75,12 +76,13 @@ FormsSome (Some x) f = (x ≡ f.form) × (f.within ≡ true)
 FormsSome None f = f.within ≡ false
 
 -- the translation of two functions; none exactly where it passes the limits
-abbrev pub Translates : Compared → Option Translation → Type 0
-Translates compared (Some t) =
-    IsTranslation compared.two.program compared.two.first compared.two.second t.rules t.first
+abbrev pub Translates : Integers → Compared → Option Translation → Type 0
+Translates integers compared (Some t) =
+    IsTranslation integers compared.two.program compared.two.first compared.two.second t.rules
+    t.first
     t.second
-Translates compared None =
-    IsBeyond compared.two.program compared.two.first compared.two.second
+Translates integers compared None =
+    IsBeyond integers compared.two.program compared.two.first compared.two.second
 
 -- ---- the search
 
@@ -211,8 +213,8 @@ abbrev pub PosesOf : Functions → List ℕ → Option Problem → Type 0
 PosesOf f source None = (verdict : Verdict) × asked f source (Ends verdict)
 PosesOf f source (Some problem) = asked f source (Goes problem)
 
--- what is said of a rule text and a log that is read under a name, or that a call on the files found
--- a fault
+-- what is said of a rule text and a log that is read under a name, or that a call on the files
+-- found a fault
 abbrev pub ReplaysNamed : Option Names → Type 0 → List ℕ → List ℕ → Verdict → Type 0
 ReplaysNamed held fault source name verdict =
     ((given : Option (List ℕ)) × IsHeld held name given × IsReplayed source given verdict)

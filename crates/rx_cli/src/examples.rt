@@ -9,6 +9,7 @@ ghost use Rattle.rx_report.specs.Texts.{IsReportableVerdict};
 
 use crate::proving::prove;
 use crate::{NoMemory, Status, Verdict};
+use c_ast::Integers;
 use rx_command::{Effort, Functions};
 use std::alloc::Global;
 
@@ -47,6 +48,7 @@ fn status_of_example(alloc: Global, number: u32) -> Result<Status, NoMemory>
 {
     let source = example_source(alloc, number)?;
     let functions = Functions {
+        integers: Integers::Unbounded,
         file: "",
         first: "u",
         second: "r",

@@ -1,5 +1,6 @@
 //! Laws of what is reported.
 ghost use Rattle.std.specs.Prelude.{◌≡◌, ◌≢◌, ◌≤◌, ℕ, List, Option, Some, length};
+ghost use Rattle.c_ast.specs.declared.integers.Integers.TheVariants.{Unbounded};
 ghost use Rattle.c_front.specs.declared.stages.Next.TheVariants.{Goes};
 ghost use Rattle.rx_command.specs.Commands.{Check, Compare, Find, Functions, Prove, Replay, Rules, command_of};
 ghost use Rattle.rx_command.specs.declared.command.Effort.{Effort};
@@ -94,11 +95,13 @@ pub fn written_inductions_are_accepted()
         Reports (Some after) ⊥ replaying ends.Equivalent (text_of said.Inductive) }
 {}
 
-/// Two functions of a text that agree have no counterexample: where both return alike on all
-/// integers that meet the precondition, there are none of these on which they return other
-/// outcomes. A law; it does nothing.
+/// Two functions of a text that agree by the mathematical integers have no counterexample: where
+/// both return alike on all integers that meet the precondition, there are none of these on which
+/// they return other outcomes. Of 32-bit integers this isn't said: where both have the range error,
+/// they may return different integers by the mathematical ones. A law; it does nothing.
 pub fn counterexamples_exclude_proofs()
-    ensures { (f : Functions) (source : List ℕ) → Agrees source f → Refutes source f → ⊥ }
+    ensures { (f : Functions) (source : List ℕ) → f.integers ≡ Unbounded → Agrees source f →
+        Refutes source f → ⊥ }
 {}
 
 /// A rule text that poses what two functions pose, as `translate` writes it, is judged by a log as

@@ -12,14 +12,14 @@ ghost use Rattle.rx_cli.specs.Problems.{asked, rows_of};
 ghost use Rattle.rx_cli.specs.Steps.{FormsSome, IsReportableNext, HasRowForm, IsReady, Translates};
 
 use crate::Verdict;
-use c_ast::Expr;
+use c_ast::{Expr, Integers};
 use c_front::{Compared, Next, TwoFunctions, compared_functions};
 use rx_command::Functions;
 use rx_plain::NoMemory;
 use rx_poly::PolyEnd;
 use rx_row::Constraint;
 use rx_term::{Equation, RuleSet};
-use rx_translate::{TranslateEnd, Translation, goal_of, rows_of_pre, rules_of};
+use rx_translate::{TranslateEnd, Translation, bounds, goal_of, rows_of_pre, rules_of};
 use std::alloc::Global;
 
 /// A rule set and a goal: whether both sides of the goal are equal by the rules. It is of two
@@ -55,7 +55,15 @@ pub fn front_stage(
     ensures line { IfOk result IsReportableNext }
 {
     let pre = bytes_of(functions.precondition);
-    match compared_functions(alloc, source, functions.first, functions.second, pre)? {
+    let integers = functions.integers;
+    match compared_functions(
+        alloc,
+        integers,
+        source,
+        functions.first,
+        functions.second,
+        pre,
+    )? {
         Next::Ends(refusal) => Ok(Next::Ends(Verdict::from(refusal))),
         Next::Goes(compared) => Ok(Next::Goes(compared)),
     }
@@ -77,13 +85,17 @@ fn rows(alloc: Global, pre: &Option<Expr>) -> Result<Option<Constraint>, NoMemor
 }
 
 /// The rules of both functions; None exactly where they pass the limits.
-fn translation(alloc: Global, compared: &Compared) -> Result<Option<Translation>, NoMemory>
+fn translation(
+    alloc: Global,
+    integers: Integers,
+    compared: &Compared,
+) -> Result<Option<Translation>, NoMemory>
     requires { IsReady compared.now }
-    ensures translates { IfOk result (Translates compared.now) }
+    ensures translates { IfOk result (Translates integers compared.now) }
     ensures paired { IfOk result (λ o. IfSome o (λ t. IsPaired t.rules)) }
 {
     let two = &compared.two;
-    match rules_of(alloc, &two.program, two.first, two.second) {
+    match rules_of(alloc, integers, &two.program, two.first, two.second) {
         Ok(translation) => Ok(Some(translation)),
         Err(TranslateEnd::Large) => Ok(None),
         Err(TranslateEnd::NoMemory) => Err(NoMemory),
@@ -108,15 +120,19 @@ fn parameter_count(two: &TwoFunctions) -> u32
 }
 
 /// The rules and the goal of two functions and a precondition.
-fn problem_stage(alloc: Global, compared: &Compared) -> Result<Next<Verdict, Problem>, NoMemory>
+fn problem_stage(
+    alloc: Global,
+    integers: Integers,
+    compared: &Compared,
+) -> Result<Next<Verdict, Problem>, NoMemory>
     requires { IsReady compared.now }
-    ensures stage { IfOk result (spec.problem_stage compared.now) }
+    ensures stage { IfOk result (spec.problem_stage integers compared.now) }
     ensures fits { IfOk result (λ next. IfGoes next (λ q. IsFitting q.rules q.goal)) }
     ensures coverable { IfOk result (λ next. IfGoes next (λ q. is_coverable q.rules ≡ true)) }
     ensures no_domains { IfOk result (λ next. IfGoes next (λ q. q.rules.domains ≡ [])) }
     ensures line { IfOk result IsReportableNext }
 {
-    let Some(translation) = translation(alloc, compared)? else {
+    let Some(translation) = translation(alloc, integers, compared)? else {
         return Ok(Next::Ends(Verdict::LargeTranslate));
     };
     let Some(rows) = rows(alloc, &compared.precondition)? else {
@@ -127,7 +143,9 @@ fn problem_stage(alloc: Global, compared: &Compared) -> Result<Next<Verdict, Pro
         first,
         second,
     } = translation;
-    let goal = goal_of(alloc, first, second, parameter_count(&compared.two), rows)?;
+    let count = parameter_count(&compared.two);
+    let bounded = bounds(alloc, integers, count, rows)?;
+    let goal = goal_of(alloc, first, second, count, bounded)?;
     Ok(Next::Goes(Problem { rules, goal }))
 }
 
@@ -147,6 +165,6 @@ pub fn ask(
 {
     match front_stage(alloc, source, functions)? {
         Next::Ends(verdict) => Ok(Next::Ends(verdict)),
-        Next::Goes(compared) => problem_stage(alloc, &compared),
+        Next::Goes(compared) => problem_stage(alloc, functions.integers, &compared),
     }
 }
