@@ -1,9 +1,16 @@
 //! Code that is written down, and the code of two expressions.
-use c_ast::{BinOp, Expr};
+use c_ast::{BinOp, Expr, Integers};
 use rx_code::{Action, Code, Point};
-use rx_exprs::{condition, value};
+use rx_exprs::{Setting, condition, value};
 use rx_plain::Boxed;
 use std::alloc::Global;
+
+fn unbounded(alloc: Global) -> Setting {
+    Setting {
+        alloc,
+        integers: Integers::Unbounded,
+    }
+}
 
 // The parameter v0 and a number, joined by an operator.
 fn joined(alloc: Global, op: BinOp, number: i64) -> Option<Expr> {
@@ -14,7 +21,7 @@ fn joined(alloc: Global, op: BinOp, number: i64) -> Option<Expr> {
 
 // The value is the variable v1 at a point that is one wider.
 fn is_wider(alloc: Global, code: &mut Code, half: &Expr, point: Point) -> Option<bool> {
-    let (after, of) = value(alloc, code, half, point).ok()?;
+    let (after, of) = value(unbounded(alloc), code, half, point).ok()?;
     Some(after.symbol == 1 && after.width == 2 && of.as_variable() == Some(1))
 }
 
@@ -26,7 +33,7 @@ fn quotient(alloc: Global, code: &mut Code, point: Point) -> Option<bool> {
 
 // The test is one instruction.
 fn is_one_instruction(alloc: Global, code: &mut Code, less: &Expr, point: Point) -> Option<bool> {
-    condition(alloc, code, less, point, point, point).ok()?;
+    condition(unbounded(alloc), code, less, point, point, point).ok()?;
     Some(code.opened.len() == 1 && code.instructions.len() == 1)
 }
 

@@ -1,6 +1,7 @@
 //! The code of a function of one parameter that returns it, and its rules.
-use c_ast::{Expr, Function, Stmt};
+use c_ast::{Expr, Function, Integers, Stmt};
 use rx_code::Code;
+use rx_exprs::Setting;
 use rx_plain::Items;
 use rx_row::Constraint;
 use rx_stmts::function;
@@ -22,7 +23,11 @@ fn identity(alloc: Global) -> Option<Function> {
 
 fn compile(alloc: Global, code: &mut Code) -> Option<()> {
     let identity = identity(alloc)?;
-    function(alloc, code, 0, &identity).ok()
+    let setting = Setting {
+        alloc,
+        integers: Integers::Unbounded,
+    };
+    function(setting, code, 0, &identity).ok()
 }
 
 fn compiled(alloc: Global) -> Option<Code> {
@@ -43,7 +48,7 @@ fn opened(alloc: Global) -> Option<bool> {
 
 // One rule of the entry, and one of the end.
 fn has_two_rules(alloc: Global, code: &Code) -> Option<bool> {
-    let parts = parts_of(alloc, code).ok()?;
+    let parts = parts_of(alloc, Integers::Unbounded, code).ok()?;
     Some(parts.symbols.len() == 2 && parts.rules.len() == 2)
 }
 

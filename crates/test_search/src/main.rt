@@ -7,8 +7,8 @@
 //! `unread`, and at the end how many lines hold.
 //!
 //! Equations, rows, polynomials and cover trees have the notation of a log. A line `rules` makes the
-//! rule set of two functions, and a line `set` any, to which `domains` gives these; the lines after
-//! it speak of that.
+//! rule set of two functions, `rules32` that by 32-bit integers, and a line `set` any, to which
+//! `domains` gives these; the lines after it speak of that.
 #![tactic(auto)]
 
 mod by_solver;
@@ -37,6 +37,7 @@ mod translation_cases;
 mod use_calls;
 mod wider_calls;
 
+use c_ast::Integers;
 use running::ran;
 use rx_term::RuleSet;
 use set_calls::take_rules;
@@ -67,7 +68,14 @@ fn holds(alloc: Global, set: &mut Option<RuleSet>, line: &str) -> Option<bool> {
     match case.call {
         "set" => take_set(alloc, set, case.given, case.wanted),
         "domains" => take_domains(alloc, set, case.given, case.wanted),
-        "rules" => take_rules(alloc, set, case.given)?.is_meant(alloc, case.wanted),
+        "rules" => take_rules(alloc, Integers::Unbounded, set, case.given)?.is_meant(
+            alloc,
+            case.wanted,
+        ),
+        "rules32" => take_rules(alloc, Integers::Bits32, set, case.given)?.is_meant(
+            alloc,
+            case.wanted,
+        ),
         _ => match compile_answers::answer_to(alloc, case.call, case.given) {
             Some(found) => found.is_meant(alloc, case.wanted),
             None => is_answered(alloc, set.as_ref()?, &case),

@@ -77,20 +77,21 @@ fn numbers(alloc: Global, text: &str) -> Option<Items<Poly>> {
     polynomials(alloc, &integers)
 }
 
-// The integer that the term is, or `div0`.
+// The integer that the term is, or the error: `div0` by its code 1, `range` by another.
 fn result_of(term: &Term) -> Answer {
     match term {
         Term::Return(value) => match value.is_constant() {
             Some(number) => Answer::Number(number),
             None => Answer::Word("open"),
         },
-        Term::Fail(_) => Answer::Word("div0"),
+        Term::Fail(1) => Answer::Word("div0"),
+        Term::Fail(_) => Answer::Word("range"),
         Term::Call(_, _) | Term::Frame(_, _, _) => Answer::Word("unfinished"),
     }
 }
 
-/// What the call of a symbol, by its number, comes to with the integers after it: an integer, or
-/// `div0`.
+/// What the call of a symbol, by its number, comes to with the integers after it: an integer,
+/// `div0`, or `range`.
 pub fn ran(alloc: Global, set: &RuleSet, given: &str) -> Option<Answer> {
     let (symbol, integers) = parted(given, " ");
     let symbol = Sym(symbol.parse().ok()?);

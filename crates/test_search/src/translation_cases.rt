@@ -1,5 +1,6 @@
 //! The rule set of two functions, and of one alone.
 use crate::programs::division;
+use c_ast::Integers;
 use rx_translate::{Translation, rules_of};
 use std::alloc::Global;
 
@@ -13,7 +14,7 @@ fn sizes(t: &Translation) -> (usize, usize, u32, u32) {
 #[tactic(auto, using(crate::proofs::Samples::division_scoped, crate::proofs::Samples::division_count))]
 fn failing(alloc: Global) -> Option<bool> {
     let program = division(alloc)?;
-    let made = rules_of(alloc, &program, 0, 1).ok()?;
+    let made = rules_of(alloc, Integers::Unbounded, &program, 0, 1).ok()?;
     Some(sizes(&made) == (5, 6, 0, 3))
 }
 
@@ -21,7 +22,7 @@ fn failing(alloc: Global) -> Option<bool> {
 #[tactic(auto, using(crate::proofs::Samples::division_scoped, crate::proofs::Samples::division_count))]
 fn alone(alloc: Global) -> Option<bool> {
     let program = division(alloc)?;
-    let made = rules_of(alloc, &program, 1, 1).ok()?;
+    let made = rules_of(alloc, Integers::Unbounded, &program, 1, 1).ok()?;
     Some(sizes(&made) == (2, 2, 0, 0))
 }
 

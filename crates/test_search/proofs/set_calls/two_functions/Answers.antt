@@ -6,8 +6,8 @@ use Rattle.test_search.proofs.set_calls.two_functions.Goals as goal
 
 pub returns-in-Ok-Goes : goal.returns-in-Ok-Goes
 returns-in-Ok-Goes c =
-    let whole : whole_front c.as_bytes.result.now c.in_ok-first.first.now c.in_ok-first.second.now
-    None (Goes c.in-Ok-Goes.field-0-0) =
+    let whole : whole_front c.args.integers c.as_bytes.result.now c.in_ok-first.first.now
+    c.in_ok-first.second.now None (Goes c.in-Ok-Goes.field-0-0) =
     rw c.in-Ok-Goes.field-0-is at c.in-Ok-Goes.ensures.front in
-    compared_scoped c.as_bytes.result.now c.in_ok-first.first.now c.in_ok-first.second.now
-    c.in-Ok-Goes.field-0-0 whole
+    compared_scoped c.args.integers c.as_bytes.result.now c.in_ok-first.first.now
+    c.in_ok-first.second.now c.in-Ok-Goes.field-0-0 whole
