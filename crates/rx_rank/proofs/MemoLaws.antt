@@ -2,8 +2,9 @@
 use Rattle.std.proofs.Common.{◌≡◌, subst, sym, IfOk, List, [], ◌∷◌, ◌++◌, Result, Ok, Err}
 use Rattle.std.proofs.lemmas.List.Elements.{All-push}
 use Rattle.rx_pairs.specs.declared.pair.Pair.{Pair}
-use Rattle.rx_rank.specs.Memo.{AreRight, IsRight}
+use Rattle.rx_rank.specs.Memo.{AreRight, AreTaken, IsRight, IsTaken}
 use Rattle.rx_rank.specs.declared.known_pair.KnownAnswer.{KnownAnswer}
+use Rattle.rx_rank.specs.declared.known_pair.KnownTaking.{KnownTaking}
 
 -- one more
 pub right_answer : (pair : Pair) (answers after : List KnownAnswer) (one : KnownAnswer) → after ≡
@@ -16,3 +17,8 @@ pub of_copy : {A E : Type 0} (P : A → Type 0) (x : A) (r : Result A E) → IfO
     IfOk r P
 of_copy P x (Ok y) same p = subst P (sym same) p
 of_copy P x (Err e) same p = tt
+
+pub right_taking : (pair : Pair) (takings after : List KnownTaking) (one : KnownTaking) → after ≡
+    takings ++ one ∷ [] → IsTaken pair one → AreTaken pair takings → AreTaken pair after
+right_taking pair takings after one is told right =
+    subst (AreTaken pair) (sym is) (All-push (IsTaken pair) takings one right told)

@@ -1,5 +1,6 @@
--- What is kept of a pair: answers of tests, each of which is right.
-use Rattle.std.specs.Prelude.{All, List}
+-- What is kept of a pair: answers of tests, and what its left symbol takes from its right one. All
+-- of it is right.
+use Rattle.std.specs.Prelude.{◌≡◌, All, Bool, List, Some}
 use Rattle.rx_plain.specs.Formed.{Formed}
 use Rattle.rx_poly.specs.declared.body.Body.{Body}
 use Rattle.rx_row.specs.declared.row.Row.{Row}
@@ -7,9 +8,13 @@ use Rattle.rx_cert.specs.Findings.{Said}
 use Rattle.rx_solve.specs.declared.showing.AllShown.{AllShown}
 use Rattle.rx_pairs.specs.Columns.{falls_rows, holds_rows}
 use Rattle.rx_pairs.specs.declared.pair.Pair.{Pair}
-use Rattle.rx_rank.specs.Answers.{IsTold}
+use Rattle.rx_solve.specs.Attempts.{Tried}
+use Rattle.rx_rank.specs.Answers.{IsTold, tried}
+use Rattle.rx_rank.specs.Choices.{instance_on, raised_by}
 use Rattle.rx_rank.specs.PairTests.{falls, holds}
+use Rattle.rx_rank.specs.Tries.{and_then}
 use Rattle.rx_rank.specs.declared.known_pair.KnownAnswer.{KnownAnswer}
+use Rattle.rx_rank.specs.declared.known_pair.KnownTaking.{KnownTaking}
 use Rattle.rx_rank.specs.declared.known_pair.PairTest.{PairTest}
 use Rattle.rx_rank.specs.declared.known_pair.PairTest.TheVariants.{Holds, Falls}
 
@@ -33,3 +38,21 @@ IsRight pair known = Tells known.test pair known.left known.right known.answer
 
 abbrev pub AreRight : Pair → List KnownAnswer → Type 0
 AreRight pair answers = All (IsRight pair) answers
+
+-- what the left symbol takes from the polynomial of the right one: its instance, and 1 more where
+-- the left symbol is raised
+abbrev pub taken : Bool → Pair → Body → Tried Body
+taken raised pair q = and_then (instance_on pair (Some q)) (raised_by raised)
+
+-- what is kept of that is right
+abbrev pub IsTaken : Pair → KnownTaking → Type 0
+IsTaken pair known = tried known.attempt ≡ taken known.raised pair known.right
+
+abbrev pub AreTaken : Pair → List KnownTaking → Type 0
+AreTaken pair takings = All (IsTaken pair) takings
+
+-- all that is kept of a pair is right
+pub record IsRightMemo (pair : Pair) (answers : List KnownAnswer) (takings : List KnownTaking) :
+    Type 0 where
+  pub tests : AreRight pair answers
+  pub instances : AreTaken pair takings

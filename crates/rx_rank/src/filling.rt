@@ -10,16 +10,14 @@ ghost use Rattle.rx_rank.specs.Choices.{pairs_from, raised_by, serving, tested};
 ghost use Rattle.rx_rank.specs.PairTests.{holds};
 ghost use Rattle.rx_rank.specs.Tries.{and_then};
 ghost use Rattle.rx_solve.specs.Answers.{IsSolver};
-ghost use Rattle.rx_solve.specs.Attempts.{fails};
 
 use crate::attempt::{Attempt, Finding, noted_before};
 use crate::known_pair::KnownPair;
 use rx_anchors::{arity_of, polynomial_of, put_polynomial};
 use rx_cert::Cert;
 use rx_fm::FmEnd;
-use rx_pairs::{Pair, on_right};
 use rx_plain::NoMemory;
-use rx_poly::{Poly, PolyEnd, uses_below};
+use rx_poly::{Poly, uses_below};
 use rx_row::Constraint;
 use rx_term::SymInfo;
 use std::alloc::Global;
@@ -113,96 +111,26 @@ fn serving<S: FnMut(&Constraint) -> Result<Option<Cert>, FmEnd>>(
     }
 }
 
-/// The instance of the polynomial that the pair leads to, where this symbol is the pair's left one.
-fn instance_from(
-    alloc: Global,
-    values: &[Option<Poly>],
-    symbol: u32,
-    pair: &Pair,
-) -> Result<Attempt<Poly>, NoMemory>
-    ensures { IfOk result (λ t. tried t ≡ (if pair.now.left.0 == symbol then
-        instance_on pair.now (polynomial_of values.now pair.now.right.0) else fails)) }
-{
-    if pair.left.0 != symbol {
-        return Ok(Attempt {
-            made: None,
-            noted: false,
-        });
-    }
-    let Some(target) = polynomial_of(values, pair.right.0) else {
-        return Ok(Attempt {
-            made: None,
-            noted: false,
-        });
-    };
-    match on_right(alloc, pair, target) {
-        Ok(poly) => Ok(Attempt {
-            made: Some(poly),
-            noted: false,
-        }),
-        Err(PolyEnd::Large) => Ok(Attempt {
-            made: None,
-            noted: true,
-        }),
-        Err(PolyEnd::NoMemory) => Err(NoMemory),
-    }
-}
-
-/// The polynomial, and 1 more where its symbol is raised.
-fn raised_by(alloc: Global, raised: bool, poly: Poly) -> Result<Attempt<Poly>, NoMemory>
-    ensures { IfOk result (λ t. tried t ≡ raised_by raised poly) }
-{
-    if !raised {
-        return Ok(Attempt {
-            made: Some(poly),
-            noted: false,
-        });
-    }
-    let one = Poly::constant(alloc, 1)?;
-    match poly.add(alloc, &one) {
-        Ok(sum) => Ok(Attempt {
-            made: Some(sum),
-            noted: false,
-        }),
-        Err(PolyEnd::Large) => Ok(Attempt {
-            made: None,
-            noted: true,
-        }),
-        Err(PolyEnd::NoMemory) => Err(NoMemory),
-    }
-}
-
-/// The same of an instance, where there is one.
-fn raised_instance(
-    alloc: Global,
-    raised: bool,
-    instance: Attempt<Poly>,
-) -> Result<Attempt<Poly>, NoMemory>
-    ensures { IfOk result (λ t. tried t ≡ and_then (tried instance) (raised_by raised)) }
-{
-    let noted = instance.noted;
-    let Some(poly) = instance.made else {
-        return Ok(Attempt { made: None, noted });
-    };
-    let attempt = raised_by(alloc, raised, poly)?;
-    Ok(noted_before(noted, attempt))
-}
-
-/// What the symbol takes from the polynomial that the pair leads to, where this symbol is the
-/// pair's left one: the instance, and 1 more where the symbol is raised.
+/// What the left symbol takes from the polynomial that the pair leads to: the instance, and 1 more
+/// where the symbol is raised.
 fn target_of(
     alloc: Global,
     raised: bool,
     values: &[Option<Poly>],
-    symbol: u32,
-    pair: &Pair,
+    known: &mut KnownPair,
 ) -> Result<Attempt<Poly>, NoMemory>
-    ensures { IfOk result (λ t. tried t ≡ (if pair.now.left.0 == symbol then
-        and_then (instance_on pair.now (polynomial_of values.now pair.now.right.0))
-        (raised_by raised) else fails)) }
+    ensures pair { known.new ≡ known.old }
+    ensures tried { IfOk result (λ t. tried t ≡
+        and_then (instance_on known.old (polynomial_of values.now known.old.right.0))
+        (raised_by raised)) }
 {
-    let instance = instance_from(alloc, values, symbol, pair)?;
-    raised_instance(alloc, raised, instance)
+    let Some(target) = polynomial_of(values, known.pair().right.0) else {
+        return Ok(Attempt {
+            made: None,
+            noted: false,
+        });
+    };
+    known.take(alloc, raised, target)
 }
 
 /// The instance, where there is one and it serves.
@@ -248,7 +176,11 @@ fn first_serving<S: FnMut(&Constraint) -> Result<Option<Cert>, FmEnd>>(
 {
     let mut noted = false;
     for at in 0..pairs.len() {
-        let instance = target_of(alloc, raised, values, symbol, pairs[at].pair())?;
+        let known = &mut pairs[at];
+        if known.pair().left.0 != symbol {
+            continue;
+        }
+        let instance = target_of(alloc, raised, values, known)?;
         let attempt = serving_instance(alloc, arity, values, symbol, pairs, instance, solve)?;
         noted |= attempt.noted;
         if attempt.made.is_some() {

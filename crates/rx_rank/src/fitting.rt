@@ -1,12 +1,13 @@
 //! Whether a choice is fit: all pairs of the component hold, and one falls.
 ghost use Rattle.std.specs.Prelude.{◌≡◌, IfOk, IfSome, is_some};
 ghost use Rattle.std.specs.List.{AllZip, list_any};
-ghost use Rattle.rx_rank.specs.Answers.{IsDecided, IsFit, IsHeld, TellsFalls, TellsHolds};
+ghost use Rattle.rx_cert.specs.Findings.{Yes};
+ghost use Rattle.rx_rank.specs.Answers.{IsDecided, IsFit, IsHeld, TellsFalls, TellsHolds, found};
 ghost use Rattle.rx_rank.specs.Answers.{only_shown, still_open, tried_as, tried_only};
 ghost use Rattle.rx_rank.specs.Choices.{all_hold, falling, falls_by, fitting, holds_by, is_beyond};
 ghost use Rattle.rx_solve.specs.Answers.{IsSolver};
 
-use crate::attempt::Attempt;
+use crate::attempt::{Attempt, Finding};
 use crate::known_pair::KnownPair;
 use rx_anchors::polynomial_of;
 use rx_cert::Cert;
@@ -68,6 +69,48 @@ fn falls_by<S: FnMut(&Constraint) -> Result<Option<Cert>, FmEnd>>(
         return Ok(AllShown::NotShown);
     };
     known.falls(alloc, left, right, solve)
+}
+
+/// Only whether a column of these polynomials holds at the pair. No certificate is copied.
+fn is_held<S: FnMut(&Constraint) -> Result<Option<Cert>, FmEnd>>(
+    alloc: Global,
+    values: &[Option<Poly>],
+    known: &mut KnownPair,
+    solve: &mut S,
+) -> Result<Finding, NoMemory>
+    requires solver { IsSolver S.FnMut solve.old }
+    ensures solver { IsSolver S.FnMut solve.new }
+    ensures pair { known.new ≡ known.old }
+    ensures found { IfOk result (λ f. found f ≡ holds_by values.now known.old) }
+{
+    let Some(left) = polynomial_of(values, known.pair().left.0) else {
+        return Ok(Finding::NotShown);
+    };
+    let Some(right) = polynomial_of(values, known.pair().right.0) else {
+        return Ok(Finding::NotShown);
+    };
+    known.is_held(alloc, left, right, solve)
+}
+
+/// Only whether all pairs hold.
+fn are_held<S: FnMut(&Constraint) -> Result<Option<Cert>, FmEnd>>(
+    alloc: Global,
+    values: &[Option<Poly>],
+    pairs: &mut [KnownPair],
+    solve: &mut S,
+) -> Result<Finding, NoMemory>
+    requires solver { IsSolver S.FnMut solve.old }
+    ensures solver { IsSolver S.FnMut solve.new }
+    ensures pairs { pairs.new ≡ pairs.old }
+    ensures found { IfOk result (λ f. found f ≡ all_hold values.now pairs.old) }
+{
+    for known in pairs.iter_mut() {
+        let finding = is_held(alloc, values, known, solve)?;
+        if !finding.is_shown() {
+            return Ok(finding);
+        }
+    }
+    Ok(Finding::Shown)
 }
 
 /// The certificates by which the pair holds.
@@ -213,16 +256,15 @@ fn some_falls(certs: &[Option<Items<Cert>>]) -> bool
     false
 }
 
-/// The fit of the polynomials with these certificates, where a pair falls.
+/// The fit of the polynomials, by which all pairs hold, where one falls.
 fn fit_falling<S: FnMut(&Constraint) -> Result<Option<Cert>, FmEnd>>(
     alloc: Global,
     values: Vec<Option<Poly>>,
-    held: Vec<Items<Cert>>,
     pairs: &mut [KnownPair],
     solve: &mut S,
 ) -> Result<Attempt<Fit>, NoMemory>
     requires solver { IsSolver S.FnMut solve.old }
-    requires held { AllZip (IsHeld values.items) pairs.old held.items }
+    requires held { all_hold values.items pairs.old ≡ Yes }
     ensures solver { IsSolver S.FnMut solve.new }
     ensures pairs { pairs.new ≡ pairs.old }
     ensures tried { IfOk result (λ t. tried_as
@@ -235,9 +277,13 @@ fn fit_falling<S: FnMut(&Constraint) -> Result<Option<Cert>, FmEnd>>(
     if !some_falls(falls.certs.as_slice()) {
         return Ok(Attempt { made: None, noted });
     }
+    let attempt = all_held(alloc, values.as_slice(), pairs, solve)?;
+    let Some(holds) = attempt.made else {
+        return Ok(Attempt { made: None, noted });
+    };
     let fit = Fit {
         values,
-        holds: held,
+        holds,
         falls: falls.certs,
     };
     Ok(Attempt {
@@ -246,7 +292,8 @@ fn fit_falling<S: FnMut(&Constraint) -> Result<Option<Cert>, FmEnd>>(
     })
 }
 
-/// The fit of the polynomials, where all pairs hold and one falls.
+/// The fit of the polynomials, where all pairs hold and one falls. No certificate is copied where
+/// one pair doesn't hold, or none falls.
 pub(crate) fn fitting<S: FnMut(&Constraint) -> Result<Option<Cert>, FmEnd>>(
     alloc: Global,
     values: Vec<Option<Poly>>,
@@ -261,10 +308,15 @@ pub(crate) fn fitting<S: FnMut(&Constraint) -> Result<Option<Cert>, FmEnd>>(
         fitting pairs.old values.items) }
     ensures fit { IfOk result (λ t. IfSome t.made (IsFit values.items pairs.old)) }
 {
-    let attempt = all_held(alloc, values.as_slice(), pairs, solve)?;
-    let noted = attempt.noted;
-    let Some(held) = attempt.made else {
-        return Ok(Attempt { made: None, noted });
-    };
-    fit_falling(alloc, values, held, pairs, solve)
+    match are_held(alloc, values.as_slice(), pairs, solve)? {
+        Finding::Shown => fit_falling(alloc, values, pairs, solve),
+        Finding::NotShown => Ok(Attempt {
+            made: None,
+            noted: false,
+        }),
+        Finding::TooLarge => Ok(Attempt {
+            made: None,
+            noted: true,
+        }),
+    }
 }

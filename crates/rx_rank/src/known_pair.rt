@@ -1,28 +1,32 @@
 //! A pair with what was found out of it: a test of the pair by two polynomials is made once, and
-//! where it is asked for again its answer is copied. Each answer that is kept is right, whichever
-//! solver gave it, since what is said of a test doesn't depend on the solver.
+//! where it is asked for again its answer is copied; so it is with the polynomials that its left
+//! symbol takes from its right one. Each answer that is kept is right, whichever solver gave it,
+//! since what is said of a test doesn't depend on the solver.
 ghost use Rattle.std.specs.Prelude.{◌≡◌, IfOk, IfSome, option_copied};
-ghost use Rattle.rx_rank.specs.Answers.{IsTold, found};
-ghost use Rattle.rx_rank.specs.Memo.{AreRight, Tells, said_of};
+ghost use Rattle.rx_rank.specs.Answers.{IsTold, found, tried};
+ghost use Rattle.rx_rank.specs.Memo.{AreRight, AreTaken, Tells, said_of, taken};
 ghost use Rattle.rx_rank.specs.PairTests.{falls, holds};
 ghost use Rattle.rx_pairs.specs.Columns.{falls_rows, holds_rows};
 ghost use Rattle.rx_pairs.specs.declared.pair.Pair.{Pair};
 ghost use Rattle.rx_solve.specs.Answers.{IsSolver};
 
-use crate::attempt::Finding;
+use crate::attempt::{Attempt, Finding};
+use crate::last_places::LastPlaces;
 use crate::pair_tests::{show_fall, show_hold};
+use crate::taking::{copied_attempt, take_from};
 use rx_cert::{Cert, copied_certs};
 use rx_fm::FmEnd;
 use rx_pairs::Pair;
 use rx_plain::NoMemory;
-use rx_poly::{Poly, copied_polys};
+use rx_poly::{Poly, copied_polys, digest_with};
 use rx_row::Constraint;
 use rx_solve::AllShown;
 use std::alloc::Global;
 use std::marker::Model;
 
-/// How many answers are kept of a pair at most.
-const MOST_ANSWERS: usize = 256;
+/// How many answers are kept of a pair at most, and how many polynomials that its left symbol
+/// takes.
+const MOST_ANSWERS: usize = 1024;
 
 /// What is asked of a pair.
 #[derive(Clone, Copy, PartialEq, Eq)]
@@ -31,6 +35,19 @@ pub(crate) enum PairTest {
     Holds,
     /// Whether a column falls at it.
     Falls,
+}
+
+/// A test by two polynomials.
+#[derive(Clone, Copy)]
+struct Question<'a> {
+    /// What is asked.
+    test: PairTest,
+    /// The polynomial of the left symbol.
+    left: &'a Poly,
+    /// The polynomial of the right symbol.
+    right: &'a Poly,
+    /// One number made of all three.
+    hash: u32,
 }
 
 /// An answer that is kept.
@@ -44,13 +61,36 @@ pub(crate) struct KnownAnswer {
     pub(crate) right: Poly,
     /// The answer.
     pub(crate) answer: AllShown,
+    /// One number made of what was asked.
+    pub(crate) hash: u32,
+    /// Where the one before it in its chain is.
+    pub(crate) before: Option<u32>,
 }
 
-/// A pair with the answers that are kept of it, the first 256; contracts see the pair.
+/// A polynomial that is kept: what the left symbol takes from the right one.
+#[derive(Drop)]
+pub(crate) struct KnownTaking {
+    /// Whether the left symbol is raised.
+    pub(crate) raised: bool,
+    /// The polynomial of the right symbol.
+    pub(crate) right: Poly,
+    /// What comes of that.
+    pub(crate) attempt: Attempt<Poly>,
+    /// One number made of the first two.
+    pub(crate) hash: u32,
+    /// Where the one before it in its chain is.
+    pub(crate) before: Option<u32>,
+}
+
+/// A pair with the answers that are kept of it, the first 1,024, and as many polynomials that its
+/// left symbol takes; contracts see the pair.
 #[derive(Drop)]
 pub(crate) struct KnownPair {
     pair: Pair,
     answers: Vec<KnownAnswer>,
+    answer_places: LastPlaces,
+    takings: Vec<KnownTaking>,
+    taking_places: LastPlaces,
 }
 
 impl Model for KnownPair {
@@ -61,11 +101,11 @@ impl Model for KnownPair {
 
     ghost coded = { pair_row.the_row.coded };
 
-    ghost use Rattle.rx_rank.specs.Memo.{AreRight};
+    ghost use Rattle.rx_rank.specs.Memo.{IsRightMemo};
 
     ghost view = { λ k. k.pair };
 
-    ghost invariant = { λ k. AreRight k.pair k.answers.items };
+    ghost invariant = { λ k. IsRightMemo k.pair k.answers.items k.takings.items };
 }
 
 /// The same pair once more.
@@ -107,20 +147,58 @@ fn finding_of(answer: &AllShown) -> Finding
     }
 }
 
-/// The answer that is kept of the test by these polynomials, if there is one.
+/// One number made of a digest.
+fn folded(digest: u128) -> u32 {
+    ((digest >> 32) & 0xffff_ffff) as u32
+}
+
+/// The test by these polynomials.
+fn test_by<'a>(test: PairTest, left: &'a Poly, right: &'a Poly) -> Question<'a>
+    ensures test { result.test ≡ test }
+    ensures left { result.left.now ≡ left.now }
+    ensures right { result.right.now ≡ right.now }
+{
+    let number = match test {
+        PairTest::Holds => 0,
+        PairTest::Falls => 1,
+    };
+    let digest = digest_with(digest_with(number, left.digest()), right.digest());
+    Question {
+        test,
+        left,
+        right,
+        hash: folded(digest),
+    }
+}
+
+/// The answer that is kept of the test, if there is one; it is looked for in the chain that ends at
+/// that place.
 fn find_answer<'a>(
     answers: &'a [KnownAnswer],
-    test: PairTest,
-    left: &Poly,
-    right: &Poly,
+    last: Option<u32>,
+    question: &Question,
 ) -> Option<&'a AllShown>
-    ensures { (pair : Pair) → AreRight pair answers.now →
-        IfSome (option_copied result) (Tells test pair left.now right.now) }
+    ensures { (pair : Pair) → AreRight pair answers.now → IfSome (option_copied result)
+        (Tells question.now.test pair question.now.left.now question.now.right.now) }
 {
-    for one in answers {
-        if one.test == test && one.left.is_same(left) && one.right.is_same(right) {
+    let mut next = last;
+    for _turn in 0..answers.len() {
+        let Some(place) = next else {
+            return None;
+        };
+        let at = place as usize;
+        if at >= answers.len() {
+            return None;
+        }
+        let one = &answers[at];
+        if one.hash == question.hash
+            && one.test == question.test
+            && one.left.is_same(question.left)
+            && one.right.is_same(question.right)
+        {
             return Some(&one.answer);
         }
+        next = one.before;
     }
     None
 }
@@ -128,19 +206,18 @@ fn find_answer<'a>(
 /// Makes the test.
 fn run_test<S: FnMut(&Constraint) -> Result<Option<Cert>, FmEnd>>(
     alloc: Global,
-    test: PairTest,
     pair: &Pair,
-    left: &Poly,
-    right: &Poly,
+    question: &Question,
     solve: &mut S,
 ) -> Result<AllShown, NoMemory>
     requires solver { IsSolver S.FnMut solve.old }
     ensures solver { IsSolver S.FnMut solve.new }
-    ensures answer { IfOk result (Tells test pair.now left.now right.now) }
+    ensures answer { IfOk result (Tells question.now.test pair.now question.now.left.now
+        question.now.right.now) }
 {
-    match test {
-        PairTest::Holds => show_hold(alloc, pair, left, right, solve),
-        PairTest::Falls => show_fall(alloc, pair, left, right, solve),
+    match question.test {
+        PairTest::Holds => show_hold(alloc, pair, question.left, question.right, solve),
+        PairTest::Falls => show_fall(alloc, pair, question.left, question.right, solve),
     }
 }
 
@@ -148,24 +225,27 @@ fn run_test<S: FnMut(&Constraint) -> Result<Option<Cert>, FmEnd>>(
 fn keep_answer(
     known: &mut KnownPair,
     alloc: Global,
-    test: PairTest,
-    left: &Poly,
-    right: &Poly,
+    question: &Question,
     answer: AllShown,
 ) -> Result<(), NoMemory>
-    requires { Tells test known.old left.now right.now answer }
+    requires { Tells question.now.test known.old question.now.left.now question.now.right.now
+        answer }
     ensures { known.new ≡ known.old }
 {
-    if known.answers.len() >= MOST_ANSWERS {
+    let count = known.answers.len();
+    if count >= MOST_ANSWERS {
         return Ok(());
     }
-    let left = left.try_clone(alloc)?;
-    let right = right.try_clone(alloc)?;
+    let left = question.left.try_clone(alloc)?;
+    let right = question.right.try_clone(alloc)?;
+    let before = known.answer_places.put(question.hash, count as u32);
     known.answers.push(KnownAnswer {
-        test,
+        test: question.test,
         left,
         right,
         answer,
+        hash: question.hash,
+        before,
     })?;
     Ok(())
 }
@@ -174,22 +254,22 @@ fn keep_answer(
 fn recall_answer<S: FnMut(&Constraint) -> Result<Option<Cert>, FmEnd>>(
     known: &mut KnownPair,
     alloc: Global,
-    test: PairTest,
-    left: &Poly,
-    right: &Poly,
+    question: &Question,
     solve: &mut S,
 ) -> Result<AllShown, NoMemory>
     requires solver { IsSolver S.FnMut solve.old }
     ensures solver { IsSolver S.FnMut solve.new }
     ensures pair { known.new ≡ known.old }
-    ensures answer { IfOk result (Tells test known.old left.now right.now) }
+    ensures answer { IfOk result (Tells question.now.test known.old question.now.left.now
+        question.now.right.now) }
 {
-    if let Some(answer) = find_answer(known.answers.as_slice(), test, left, right) {
+    let last = known.answer_places.last(question.hash);
+    if let Some(answer) = find_answer(known.answers.as_slice(), last, question) {
         return copied_answer(alloc, answer);
     }
-    let answer = run_test(alloc, test, &known.pair, left, right, solve)?;
+    let answer = run_test(alloc, &known.pair, question, solve)?;
     let copy = copied_answer(alloc, &answer)?;
-    keep_answer(known, alloc, test, left, right, copy)?;
+    keep_answer(known, alloc, question, copy)?;
     Ok(answer)
 }
 
@@ -197,23 +277,87 @@ fn recall_answer<S: FnMut(&Constraint) -> Result<Option<Cert>, FmEnd>>(
 fn recall_finding<S: FnMut(&Constraint) -> Result<Option<Cert>, FmEnd>>(
     known: &mut KnownPair,
     alloc: Global,
-    test: PairTest,
-    left: &Poly,
-    right: &Poly,
+    question: &Question,
     solve: &mut S,
 ) -> Result<Finding, NoMemory>
     requires solver { IsSolver S.FnMut solve.old }
     ensures solver { IsSolver S.FnMut solve.new }
     ensures pair { known.new ≡ known.old }
-    ensures finding { IfOk result (λ f. found f ≡ said_of test known.old left.now right.now) }
+    ensures finding { IfOk result (λ f. found f ≡ said_of question.now.test known.old
+        question.now.left.now question.now.right.now) }
 {
-    if let Some(answer) = find_answer(known.answers.as_slice(), test, left, right) {
+    let last = known.answer_places.last(question.hash);
+    if let Some(answer) = find_answer(known.answers.as_slice(), last, question) {
         return Ok(finding_of(answer));
     }
-    let answer = run_test(alloc, test, &known.pair, left, right, solve)?;
+    let answer = run_test(alloc, &known.pair, question, solve)?;
     let finding = finding_of(&answer);
-    keep_answer(known, alloc, test, left, right, answer)?;
+    keep_answer(known, alloc, question, answer)?;
     Ok(finding)
+}
+
+/// One number made of a polynomial and of whether it is raised.
+fn taking_hash(raised: bool, right: &Poly) -> u32 {
+    let number = if raised { 1 } else { 0 };
+    folded(digest_with(number, right.digest()))
+}
+
+/// What is kept of that the left symbol takes, if there is something; it is looked for in the chain
+/// that ends at that place.
+fn find_taking<'a>(
+    takings: &'a [KnownTaking],
+    last: Option<u32>,
+    hash: u32,
+    raised: bool,
+    right: &Poly,
+) -> Option<&'a Attempt<Poly>>
+    ensures { (pair : Pair) → AreTaken pair takings.now → IfSome (option_copied result)
+        (λ t. tried t ≡ taken raised pair right.now) }
+{
+    let mut next = last;
+    for _turn in 0..takings.len() {
+        let Some(place) = next else {
+            return None;
+        };
+        let at = place as usize;
+        if at >= takings.len() {
+            return None;
+        }
+        let one = &takings[at];
+        if one.hash == hash && one.raised == raised && one.right.is_same(right) {
+            return Some(&one.attempt);
+        }
+        next = one.before;
+    }
+    None
+}
+
+/// Keeps it, where there is room for it.
+fn keep_taking(
+    known: &mut KnownPair,
+    alloc: Global,
+    hash: u32,
+    raised: bool,
+    right: &Poly,
+    attempt: Attempt<Poly>,
+) -> Result<(), NoMemory>
+    requires { tried attempt ≡ taken raised known.old right.now }
+    ensures { known.new ≡ known.old }
+{
+    let count = known.takings.len();
+    if count >= MOST_ANSWERS {
+        return Ok(());
+    }
+    let right = right.try_clone(alloc)?;
+    let before = known.taking_places.put(hash, count as u32);
+    known.takings.push(KnownTaking {
+        raised,
+        right,
+        attempt,
+        hash,
+        before,
+    })?;
+    Ok(())
 }
 
 impl KnownPair {
@@ -224,6 +368,9 @@ impl KnownPair {
         Ok(KnownPair {
             pair: copied_pair(alloc, pair)?,
             answers: Vec::new(alloc),
+            answer_places: LastPlaces::new(alloc)?,
+            takings: Vec::new(alloc),
+            taking_places: LastPlaces::new(alloc)?,
         })
     }
 
@@ -248,7 +395,7 @@ impl KnownPair {
         ensures answer { IfOk result (IsTold (holds self.old left.now right.now) self.old
             (holds_rows self.old left.now right.now)) }
     {
-        recall_answer(self, alloc, PairTest::Holds, left, right, solve)
+        recall_answer(self, alloc, &test_by(PairTest::Holds, left, right), solve)
     }
 
     /// Whether a column with these polynomials for the left and the right symbol falls at it.
@@ -265,7 +412,7 @@ impl KnownPair {
         ensures answer { IfOk result (IsTold (falls self.old left.now right.now) self.old
             (falls_rows self.old left.now right.now)) }
     {
-        recall_answer(self, alloc, PairTest::Falls, left, right, solve)
+        recall_answer(self, alloc, &test_by(PairTest::Falls, left, right), solve)
     }
 
     /// Only what is said of it: whether a column holds at it. No certificate is copied.
@@ -281,6 +428,28 @@ impl KnownPair {
         ensures pair { self.new ≡ self.old }
         ensures found { IfOk result (λ f. found f ≡ holds self.old left.now right.now) }
     {
-        recall_finding(self, alloc, PairTest::Holds, left, right, solve)
+        recall_finding(self, alloc, &test_by(PairTest::Holds, left, right), solve)
+    }
+
+    /// What the left symbol takes from the polynomial of the right one: its instance, and 1 more
+    /// where the left symbol is raised.
+    pub(crate) fn take(
+        &mut self,
+        alloc: Global,
+        raised: bool,
+        right: &Poly,
+    ) -> Result<Attempt<Poly>, NoMemory>
+        ensures pair { self.new ≡ self.old }
+        ensures tried { IfOk result (λ t. tried t ≡ taken raised self.old right.now) }
+    {
+        let hash = taking_hash(raised, right);
+        let last = self.taking_places.last(hash);
+        if let Some(attempt) = find_taking(self.takings.as_slice(), last, hash, raised, right) {
+            return copied_attempt(alloc, attempt);
+        }
+        let attempt = take_from(alloc, raised, &self.pair, right)?;
+        let copy = copied_attempt(alloc, &attempt)?;
+        keep_taking(self, alloc, hash, raised, right, copy)?;
+        Ok(attempt)
     }
 }

@@ -10,12 +10,14 @@ mod filling;
 mod fitting;
 mod kind;
 mod known_pair;
+mod last_places;
 mod open_component;
 mod order;
 mod pair_memo;
 mod pair_tests;
 mod partition;
 mod representatives;
+mod taking;
 
 pub use attempt::{Attempt, noted_before};
 pub use component::fit_component;

@@ -15,7 +15,7 @@ use std::marker::Model;
 const MOST_PAIRS: usize = 1024;
 
 /// What was found out of pairs. It may be used with any rules and any solver. At most 1,024 pairs
-/// are kept, and of each the first 256 answers; contracts see the number of the pairs.
+/// are kept, and of each the first 1,024 answers; contracts see the number of the pairs.
 #[derive(Drop)]
 pub struct PairMemo {
     known: Vec<KnownPair>,

@@ -5,11 +5,11 @@ use Rattle.rx_rank.proofs.known_pair.recall_finding.Goals as goal
 
 pub returns-in-Some-clause-finding : goal.returns-in-Some-clause-finding
 returns-in-Some-clause-finding g c =
-    let a = c.args in
+    let q = c.args.question.now in
     let pair = c.known.inside.pair in
-    let tells = Tells a.test pair a.left.now a.right.now in
-    let right = subst (AreRight pair) (sym c.as_slice.ensures.value) c.known.invariant in
+    let tells = Tells q.test pair q.left.now q.right.now in
+    let right = subst (AreRight pair) (sym c.as_slice.ensures.value) c.known.invariant.tests in
     let told = subst (λ o. IfSome (option_copied o) tells) c.in-Some.is
     (c.find_answer.ensures pair right) in
-    c.finding_of.ensures a.test a.known.now a.left.now a.right.now
-    (subst (λ p. Tells a.test p a.left.now a.right.now c.in-Some.answer.now) c.known.view_is told)
+    c.finding_of.ensures q.test c.args.known.now q.left.now q.right.now
+    (subst (λ p. Tells q.test p q.left.now q.right.now c.in-Some.answer.now) c.known.view_is told)
