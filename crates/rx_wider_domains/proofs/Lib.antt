@@ -1,5 +1,6 @@
 -- Lemmas on the definitions of specs/.
 pub mod GroupLaws
 pub mod LawfulLists
+pub mod ListLaws
 pub mod ServingLaws
 pub mod TakenLaws

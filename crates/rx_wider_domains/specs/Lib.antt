@@ -7,3 +7,4 @@ pub mod Lists
 pub mod Offers
 pub mod Places
 pub mod Signs
+pub mod Walks

@@ -1,10 +1,13 @@
 -- The longer lists of rows that domains may have, by group: first the rows of the goal, where a
 -- redex of it is of the group, and of the rules whose left root is, all with their signs; then
--- numbers and equations, and twice rows that are handed on.
-use Rattle.std.specs.Prelude.{ℕ, Option, List, [], length, replicate}
-use Rattle.std.specs.List.{flat_map, fold}
+-- numbers and equations at the group's symbols, and twice rows that are handed to these. Each row is
+-- listed once.
+use Rattle.std.specs.Prelude.{ℕ, Option, List, [], ◌++◌, if◌then◌else◌, length, map}
+use Rattle.std.specs.List.{flat_map}
 use Rattle.std.specs.Option.{option_and_then, option_map_or}
+use Rattle.rx_plain.specs.Formed.{Formed}
 use Rattle.rx_row.specs.declared.row.Row.{Row}
+use Rattle.rx_anchors.specs.Members.{is_member, symbols_of}
 use Rattle.rx_pairs.specs.Pairs.{Part}
 use Rattle.rx_term.specs.Meaning.{redex_of}
 use Rattle.rx_term.specs.Stacks.{root_of}
@@ -14,72 +17,71 @@ use Rattle.rx_term.specs.declared.rule_set.RuleParts.{RuleParts}
 use Rattle.rx_term.specs.declared.rule_set.SymInfo.{SymInfo}
 use Rattle.rx_term.specs.declared.term.Sym.{Sym}
 use Rattle.rx_term.specs.declared.term.Term.{Term}
+use Rattle.rx_find_domains.specs.Finding.{list_of}
 use Rattle.rx_find_domains.specs.Groups.{groups}
 use Rattle.rx_find_domains.specs.Parts.{occurrences_of}
-use Rattle.rx_wider_domains.specs.Groups.{symbol_rows, with_rows}
+use Rattle.rx_wider_domains.specs.Groups.{symbol_rows, taken}
 use Rattle.rx_wider_domains.specs.Offers.{offers}
 use Rattle.rx_wider_domains.specs.Signs.{signs}
 use Rattle.rx_wider_domains.specs.declared.offering.Offering.{Offering}
 
--- a list for each symbol, without rows
-abbrev pub no_rows : List SymInfo → List (List Row)
-no_rows infos = replicate (length infos) []
+-- ---- one group, which has that name
 
-module _ (names : List ℕ) where
-  -- ---- rows with their signs
+module _ (names : List ℕ) (g : ℕ) where
+  -- the rows, where there is a symbol and it is of the group
+  abbrev pub if_member : List (Formed Row) → Option Sym → List (Formed Row)
+  if_member rows root =
+      option_map_or (λ (f : Sym). if is_member names g f.0 then rows else []) root []
 
-  -- the rows go to the symbol's group, if there is a symbol
-  abbrev pub with_signs : List Row → List (List Row) → Option Sym → List (List Row)
-  with_signs rows lists root =
-      option_map_or (λ (f : Sym). with_rows names lists f.0 (flat_map signs rows)) root lists
+  -- those of the goal, for each side whose redex is of the group
+  abbrev pub side_rows : Equation → Term → List (Formed Row)
+  side_rows goal t = if_member (flat_map signs goal.rows) (option_and_then root_of (redex_of t))
 
-  abbrev pub with_rule : List (List Row) → Rule → List (List Row)
-  with_rule lists rule = with_signs rule.rows lists (root_of rule.left)
+  abbrev pub goal_rows : Equation → List (Formed Row)
+  goal_rows goal = side_rows goal goal.left ++ side_rows goal goal.right
 
-  -- those of the goal to the group of this side's redex
-  abbrev pub with_side : Equation → List (List Row) → Term → List (List Row)
-  with_side goal lists t = with_signs goal.rows lists (option_and_then root_of (redex_of t))
+  -- those of a rule whose left root is
+  abbrev pub rule_rows : Rule → List (Formed Row)
+  rule_rows rule = if_member (flat_map signs rule.rows) (root_of rule.left)
 
-  abbrev pub with_goal : Equation → List (List Row) → List (List Row)
-  with_goal goal lists = with_side goal (with_side goal lists goal.left) goal.right
+  -- what is offered at the group's symbols in a rule's right side
+  abbrev pub offered_at : Offering → Part → List (Formed Row)
+  offered_at offering at =
+      if is_member names g at.symbol.0 then offers names offering at else []
 
-  -- ---- what is offered at occurrences
+  abbrev pub offered_in : Offering → Rule → List (Formed Row)
+  offered_in offering rule = flat_map (offered_at offering) (occurrences_of rule.right)
 
-  -- the rows go to the group of the symbol that stands there
-  abbrev pub at_occurrence : Offering → List (List Row) → Part → List (List Row)
-  at_occurrence offering lists at =
-      with_rows names lists at.symbol.0 (offers names offering at)
+  abbrev pub offered : Offering → List Rule → List (Formed Row)
+  offered offering rules = flat_map (offered_in offering) rules
 
-  -- at each in the rule's right side
-  abbrev pub at_rule : Offering → List (List Row) → Rule → List (List Row)
-  at_rule offering lists rule =
-      fold (at_occurrence offering) lists (occurrences_of rule.right)
+  abbrev pub listed_rows : RuleParts → Equation → List Row
+  listed_rows parts goal =
+      taken [] (goal_rows goal ++ (flat_map rule_rows parts.rules
+      ++ (offered Offering.Numbers parts.rules ++ offered Offering.Equations parts.rules)))
 
-  abbrev pub at_rules : Offering → List Rule → List (List Row) → List (List Row)
-  at_rules offering rules lists = fold (at_rule offering) lists rules
-
-  -- the rule's left root hands on the rows that it had before
-  abbrev pub handing : List SymInfo → List (List Row) → List (List Row) → Rule → List (List Row)
-  handing infos before lists rule =
+  -- what a rule hands to the group of the rows that its left root has in these lists
+  abbrev pub handed_by : List SymInfo → List (List Row) → Rule → List (Formed Row)
+  handed_by infos lists rule =
       option_map_or (λ (f : Sym).
-      at_rule (Offering.Handed f (symbol_rows names infos before f.0)) lists rule)
-      (root_of rule.left) lists
+      offered_in (Offering.Handed f (symbol_rows names infos lists f.0)) rule) (root_of rule.left)
+      []
 
-  abbrev pub handed : RuleParts → List (List Row) → List (List Row)
-  handed parts lists = fold (handing parts.symbols lists) lists parts.rules
+  abbrev pub handed_rows : RuleParts → List (List Row) → List Row
+  handed_rows parts lists =
+      taken (list_of lists g) (flat_map (handed_by parts.symbols lists) parts.rules)
 
-  -- ---- all
+-- ---- all groups
 
-  abbrev pub rows_listed : RuleParts → Equation → List (List Row)
-  rows_listed parts goal = fold with_rule (with_goal goal (no_rows parts.symbols)) parts.rules
+module _ (names : List ℕ) (parts : RuleParts) where
+  abbrev pub listed : Equation → List (List Row)
+  listed goal = map (λ g. listed_rows names g parts goal) (symbols_of (length parts.symbols))
 
-  abbrev pub listed : RuleParts → Equation → List (List Row)
-  listed parts goal =
-      at_rules Offering.Equations parts.rules
-      (at_rules Offering.Numbers parts.rules (rows_listed parts goal))
+  abbrev pub handed : List (List Row) → List (List Row)
+  handed lists = map (λ g. handed_rows names g parts lists) (symbols_of (length parts.symbols))
 
-  abbrev pub lists_by : RuleParts → Equation → List (List Row)
-  lists_by parts goal = handed parts (handed parts (listed parts goal))
+  abbrev pub lists_by : Equation → List (List Row)
+  lists_by goal = handed (handed (listed goal))
 
 unfoldable pub wider_lists : RuleParts → Equation → List (List Row)
 wider_lists parts goal = lists_by (groups parts) parts goal

@@ -1,7 +1,8 @@
 //! Rows that symbols hand on to the groups of the symbols that they lead to.
 ghost use Rattle.std.specs.Prelude.{◌≡◌, IfOk, OnOk};
 ghost use Rattle.std.specs.List.{fold};
-ghost use Rattle.rx_wider_domains.specs.Lists.{handed, handing, listed, lists_by};
+ghost use Rattle.rx_wider_domains.specs.Lists.{lists_by};
+ghost use Rattle.rx_wider_domains.specs.Walks.{handed_on, handing, offers_listed, walked};
 
 use crate::by_symbol::symbol_rows;
 use crate::listing::{list_rows, visit_rules, visit_term};
@@ -66,7 +67,7 @@ fn hand_on(
     parts: &RuleParts,
     before: &[Constraint],
 ) -> Result<Vec<Constraint>, NoMemory>
-    ensures { IfOk result (λ lists. lists.items ≡ handed names.now parts.now before.now) }
+    ensures { IfOk result (λ lists. lists.items ≡ handed_on names.now parts.now before.now) }
 {
     let mut lists = copied_lists(alloc, before)?;
     let symbols = parts.symbols.as_slice();
@@ -88,13 +89,27 @@ fn list_offers(
     parts: &RuleParts,
     goal: &Equation,
 ) -> Result<Vec<Constraint>, NoMemory>
-    ensures { IfOk result (λ lists. lists.items ≡ listed names.now parts.now goal.now) }
+    ensures { IfOk result (λ lists. lists.items ≡ offers_listed names.now parts.now goal.now) }
 {
     let mut lists = list_rows(alloc, names, parts, goal)?;
     let rules = parts.rules.as_slice();
     visit_rules(&mut lists, alloc, names, &Offering::Numbers, rules)?;
     visit_rules(&mut lists, alloc, names, &Offering::Equations, rules)?;
     Ok(lists)
+}
+
+/// The longer lists, as walks over the goal and the rules make them.
+fn walk_lists(
+    alloc: Global,
+    names: &[u32],
+    parts: &RuleParts,
+    goal: &Equation,
+) -> Result<Vec<Constraint>, NoMemory>
+    ensures { IfOk result (λ lists. lists.items ≡ walked names.now parts.now goal.now) }
+{
+    let listed = list_offers(alloc, names, parts, goal)?;
+    let once = hand_on(alloc, names, parts, listed.as_slice())?;
+    hand_on(alloc, names, parts, once.as_slice())
 }
 
 /// The longer lists of the groups.
@@ -106,7 +121,5 @@ pub(crate) fn find_lists(
 ) -> Result<Vec<Constraint>, NoMemory>
     ensures { IfOk result (λ lists. lists.items ≡ lists_by names.now parts.now goal.now) }
 {
-    let listed = list_offers(alloc, names, parts, goal)?;
-    let once = hand_on(alloc, names, parts, listed.as_slice())?;
-    hand_on(alloc, names, parts, once.as_slice())
+    walk_lists(alloc, names, parts, goal)
 }

@@ -6,7 +6,7 @@ ghost use Rattle.rx_pairs.specs.Pairs.{part};
 ghost use Rattle.rx_term.specs.Meaning.{redex_of};
 ghost use Rattle.rx_term.specs.Stacks.{root_of};
 ghost use Rattle.rx_find_domains.specs.Parts.{occurrences_of};
-ghost use Rattle.rx_wider_domains.specs.Lists.{at_occurrence, at_rules, no_rows, rows_listed, with_goal, with_rule, with_side, with_signs};
+ghost use Rattle.rx_wider_domains.specs.Walks.{at_occurrence, at_rules, no_rows, rows_listed, with_goal, with_rule, with_side, with_signs};
 
 use crate::group_lists::list_number;
 use crate::offering::Offering;

@@ -2,7 +2,7 @@
 use Rattle.std.proofs.Common.{◌≡◌, ◌∙◌, ap, sym, arith, ◌≤◌, Some, length}
 use Rattle.std.specs.Prelude.{slice_get}
 use Rattle.std.specs.List.{flat_map}
-use Rattle.rx_wider_domains.specs.Lists.{with_signs}
+use Rattle.rx_wider_domains.specs.Walks.{with_signs}
 use Rattle.rx_wider_domains.specs.Signs.{signs}
 use Rattle.rx_wider_domains.proofs.GroupLaws.{past}
 use Rattle.rx_wider_domains.proofs.listing.take_rows.Goals as goal

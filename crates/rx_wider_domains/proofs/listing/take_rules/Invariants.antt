@@ -1,7 +1,7 @@
 -- What is left of the rules decides.
 use Rattle.std.proofs.Common.{◌≡◌, drop}
 use Rattle.std.specs.List.{fold}
-use Rattle.rx_wider_domains.specs.Lists.{with_rule}
+use Rattle.rx_wider_domains.specs.Walks.{with_rule}
 use Rattle.rx_wider_domains.proofs.listing.take_rules.Given as goal
 
 abbrev pub invariant-loop-rule : goal.invariant-loop-rule

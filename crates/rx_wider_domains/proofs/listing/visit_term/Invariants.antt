@@ -3,7 +3,7 @@ use Rattle.std.proofs.Common.{◌≡◌}
 use Rattle.std.specs.List.{fold}
 use Rattle.rx_term.specs.Stacks.{depth_of}
 use Rattle.rx_find_domains.specs.Parts.{occurrences_of}
-use Rattle.rx_wider_domains.specs.Lists.{at_occurrence}
+use Rattle.rx_wider_domains.specs.Walks.{at_occurrence}
 use Rattle.rx_wider_domains.proofs.listing.visit_term.Given as goal
 
 abbrev pub invariant-loop-here : goal.invariant-loop-here
