@@ -3,6 +3,7 @@ ghost use Rattle.std.specs.Prelude.{◌≡◌, ◌≤◌, [], None, true, length
 ghost use Rattle.rx_command.specs.Commands.{functions_view, is_short};
 ghost use Rattle.rx_cache.specs.CachedSolver.{IsCachedSolver};
 ghost use Rattle.rx_find_cover.specs.Coverable.{is_coverable};
+ghost use Rattle.rx_find_lemmas.specs.Finders.{FindsLemmas, IsLemmaFinder};
 ghost use Rattle.rx_proofs.specs.Goals.{IsFitting};
 ghost use Rattle.rx_log.specs.Depth.{is_shallow_log};
 ghost use Rattle.rx_logtext.specs.Logs.{IsLog};
@@ -27,6 +28,7 @@ use c_front::Next;
 use rx_cache::CachedSolver;
 use rx_cert::Cert;
 use rx_command::{Effort, Functions};
+use rx_find_lemmas::{Lemma, find_lemmas};
 use rx_fm::FmEnd;
 use rx_has_ranks::RankMemo;
 use rx_log::Log;
@@ -40,7 +42,7 @@ use rx_search::{
     search_over, unranked_end,
 };
 use rx_solve::refutes;
-use rx_term::Equation;
+use rx_term::{Equation, RuleSet};
 use rx_wider::{Reach, wider_search};
 use std::alloc::Global;
 
@@ -171,20 +173,26 @@ fn search_on<S: FnMut(&Constraint) -> Result<Option<Cert>, FmEnd>>(
 }
 
 /// What both searches find over rules that have ranks: the stated search comes first.
-fn search_both<S: FnMut(&Constraint) -> Result<Option<Cert>, FmEnd>>(
+fn search_both<
+    S: FnMut(&Constraint) -> Result<Option<Cert>, FmEnd>,
+    L: FnMut(&Equation, &RuleSet, &mut S) -> Result<Items<Lemma>, FmEnd>,
+>(
     alloc: Global,
     space: &SearchSpace<'_>,
     goal: &Equation,
     effort: Effort,
     ranks: &mut RankMemo,
     solve: &mut S,
+    lemma: &mut L,
 ) -> Result<Log, SearchEnd>
     requires fits { IsFitting space.now.rules.now goal.now }
     requires ready { IsReady space.now.kind space.now.rules.now }
     requires listed { space.now.listed.now ≡
         listing space.now.rules.now space.now.rules.now.rules }
     requires solver { IsSolver S.FnMut solve.old }
+    requires lemma { IsLemmaFinder S.FnMut L.FnMut lemma.old }
     ensures solver { IsSolver S.FnMut solve.new }
+    ensures lemma { IsLemmaFinder S.FnMut L.FnMut lemma.new }
     ensures found { IsFoundOver space.now.kind space.now.rules.now goal.now effort result }
 {
     match search_over(
@@ -196,6 +204,7 @@ fn search_both<S: FnMut(&Constraint) -> Result<Option<Cert>, FmEnd>>(
         MOST_KEPT,
         ranks,
         solve,
+        lemma,
     ) {
         Ok(log) => Ok(log),
         Err(end) => search_on(alloc, space, goal, effort, end, ranks, solve),
@@ -203,18 +212,24 @@ fn search_both<S: FnMut(&Constraint) -> Result<Option<Cert>, FmEnd>>(
 }
 
 /// What both searches find inside domains; a log gets the domains.
-fn search_inside<S: FnMut(&Constraint) -> Result<Option<Cert>, FmEnd>>(
+fn search_inside<
+    S: FnMut(&Constraint) -> Result<Option<Cert>, FmEnd>,
+    L: FnMut(&Equation, &RuleSet, &mut S) -> Result<Items<Lemma>, FmEnd>,
+>(
     alloc: Global,
     problem: &Problem,
     effort: Effort,
     inside: Inside,
     ranks: &mut RankMemo,
     solve: &mut S,
+    lemma: &mut L,
 ) -> Result<Log, SearchEnd>
     requires fits { IsFitting problem.now.rules problem.now.goal }
     requires begun { IsBegun problem.now.rules problem.now.goal (Beginning.Inside inside) }
     requires solver { IsSolver S.FnMut solve.old }
+    requires lemma { IsLemmaFinder S.FnMut L.FnMut lemma.old }
     ensures solver { IsSolver S.FnMut solve.new }
+    ensures lemma { IsLemmaFinder S.FnMut L.FnMut lemma.new }
     ensures found { IsFound problem.now effort
         (sought problem.now.rules problem.now.goal effort.depth effort.budget) result }
 {
@@ -229,24 +244,30 @@ fn search_inside<S: FnMut(&Constraint) -> Result<Option<Cert>, FmEnd>>(
         listed,
         kind: *kind,
     };
-    match search_both(alloc, &space, &problem.goal, effort, ranks, solve) {
+    match search_both(alloc, &space, &problem.goal, effort, ranks, solve, lemma) {
         Ok(log) => Ok(log_inside(log, inside)),
         Err(end) => Err(dropped(inside, end)),
     }
 }
 
 /// What both searches find for a problem, from where they begin.
-fn search_from<S: FnMut(&Constraint) -> Result<Option<Cert>, FmEnd>>(
+fn search_from<
+    S: FnMut(&Constraint) -> Result<Option<Cert>, FmEnd>,
+    L: FnMut(&Equation, &RuleSet, &mut S) -> Result<Items<Lemma>, FmEnd>,
+>(
     alloc: Global,
     problem: &Problem,
     effort: Effort,
     ranks: &mut RankMemo,
     solve: &mut S,
+    lemma: &mut L,
 ) -> Result<Log, SearchEnd>
     requires fits { IsFitting problem.now.rules problem.now.goal }
     requires coverable { is_coverable problem.now.rules ≡ true }
     requires solver { IsSolver S.FnMut solve.old }
+    requires lemma { IsLemmaFinder S.FnMut L.FnMut lemma.old }
     ensures solver { IsSolver S.FnMut solve.new }
+    ensures lemma { IsLemmaFinder S.FnMut L.FnMut lemma.new }
     ensures found { IsFound problem.now effort
         (sought problem.now.rules problem.now.goal effort.depth effort.budget) result }
 {
@@ -260,9 +281,11 @@ fn search_from<S: FnMut(&Constraint) -> Result<Option<Cert>, FmEnd>>(
                 listed: &listed,
                 kind: RankingKind::Plain,
             };
-            search_both(alloc, &space, goal, effort, ranks, solve)
+            search_both(alloc, &space, goal, effort, ranks, solve, lemma)
         }
-        Beginning::Inside(inside) => search_inside(alloc, problem, effort, inside, ranks, solve),
+        Beginning::Inside(inside) => {
+            search_inside(alloc, problem, effort, inside, ranks, solve, lemma)
+        }
         Beginning::Unranked { noted } => Err(unranked_end(alloc, noted, goal)),
     }
 }
@@ -287,7 +310,8 @@ fn answer_of(alloc: Global, found: Result<Log, SearchEnd>) -> Result<Answer, NoM
     }
 }
 
-/// Searches for a proof that solves a problem: the stated search comes first.
+/// Searches for a proof that solves a problem: the stated search comes first. It takes its lemmas
+/// by a closure that asks the same solver.
 pub(crate) fn search_by<S: FnMut(&Constraint) -> Result<Option<Cert>, FmEnd>>(
     alloc: Global,
     problem: &Problem,
@@ -301,8 +325,13 @@ pub(crate) fn search_by<S: FnMut(&Constraint) -> Result<Option<Cert>, FmEnd>>(
     ensures answer { IfOk result (OnProblem problem.now effort) }
     ensures reportable { IfOk result IsReportable }
 {
+    let mut lemma = |goal: &Equation, rules: &RuleSet, solve: &mut S| -> Result<Items<Lemma>, FmEnd>
+        requires solver { IsSolver S.FnMut solve.old }
+        ensures solver { IsSolver S.FnMut solve.new }
+        ensures answer { FindsLemmas rules.now goal.now result }
+    { find_lemmas(alloc, goal, rules, solve) };
     let mut ranks = RankMemo::new(alloc);
-    let found = search_from(alloc, problem, effort, &mut ranks, solve);
+    let found = search_from(alloc, problem, effort, &mut ranks, solve, &mut lemma);
     answer_of(alloc, found)
 }
 

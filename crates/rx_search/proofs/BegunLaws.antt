@@ -24,7 +24,7 @@ use Rattle.rx_term.specs.declared.rule_set.RuleParts.{RuleParts}
 use Rattle.rx_wider_domains.specs.Finding.{wider_domains}
 use Rattle.rx_search.specs.Beginning.{Over, Unranked, beginning, begun_by, begun_inside, begun_over, begun_wider, by_ranks, or_wider, stated_beginning}
 use Rattle.rx_search.specs.Beginning as beginnings
-use Rattle.rx_search.specs.Begun.{AreFound, BeginsWith, IsBegun, IsBegunAt, IsInside, IsReady, IsStatedBegun}
+use Rattle.rx_search.specs.Begun.{AreFound, BeginsWith, IsBegun, IsInside, IsReady, IsStatedBegun}
 use Rattle.rx_search.specs.Search.{searched, searched_from, visited}
 use Rattle.rx_search.specs.declared.beginning.Beginning.{Beginning}
 use Rattle.rx_search.specs.declared.beginning.Beginning.TheVariants as begun

@@ -1,9 +1,9 @@
 -- What is found where a goal is alone: the known choices so far, with one more.
 use Rattle.std.proofs.Common.{◌≡◌, ℕ, Bool, true, false, Option, Some, None, Result, Ok, Err, List, [], ◌∷◌, ◌++◌, map, All, refl, sym, ap, subst, ◌∙◌, ◌⊎◌, inl, inr}
-use Rattle.std.specs.Prelude.{IfOk, IfSome}
+use Rattle.std.specs.Prelude.{IfOk, IfSome, OnOk}
 use Rattle.std.specs.Option.{option_map}
-use Rattle.std.proofs.lemmas.List.{append-nil, map-append}
-use Rattle.std.proofs.lemmas.List.Elements.{All-append, All-cons, All-nil, All-push}
+use Rattle.std.proofs.lemmas.List.{map-append}
+use Rattle.std.proofs.lemmas.List.Elements.{All-append, All-cons, All-head, All-nil, All-push, All-tail}
 use Rattle.rx_plain.specs.declared.no_memory.NoMemory.{NoMemory}
 use Rattle.rx_solve.specs.Attempts.{Tried, beyond}
 use Rattle.rx_term.specs.declared.rule.Equation.{Equation}
@@ -13,10 +13,12 @@ use Rattle.rx_inference.specs.declared.step.Side.{Side}
 use Rattle.rx_inference.specs.declared.step.Side.TheVariants.{Left, Right}
 use Rattle.rx_inference.specs.declared.step.Step.{Step}
 use Rattle.rx_inference.specs.declared.step.Step.TheVariants as steps
-use Rattle.rx_lemma.specs.Lemmas.{Generalisation}
-use Rattle.rx_search.specs.Candidates.{candidates_by, expansions, lemma_candidate}
+use Rattle.rx_find_lemmas.specs.Finders.{AreLemmas, IsShown}
+use Rattle.rx_find_lemmas.specs.Finding.{lemmas_at}
+use Rattle.rx_find_lemmas.specs.Lemmas.{general}
+use Rattle.rx_find_lemmas.specs.declared.lemma.Lemma.{Lemma}
+use Rattle.rx_search.specs.Candidates.{expansions, lemma_candidate, number_of}
 use Rattle.rx_search.specs.declared.candidates.Candidate.{Candidate}
-use Rattle.rx_search.specs.declared.candidates.Candidates.{Candidates}
 use Rattle.rx_memo.specs.Kept.{IsKept, IsThat}
 use Rattle.rx_memo.specs.declared.goal_memo.Kept.{Kept}
 use Rattle.rx_memo.proofs.Buckets.{nothing_kept}
@@ -26,8 +28,8 @@ use Rattle.rx_settle.specs.Answers.{IsTrial, Takes}
 use Rattle.rx_moves.specs.Moves.{Move, move_of}
 use Rattle.rx_moves.specs.Trying.{Next, attempt}
 use Rattle.rx_settle.specs.declared.trial.Trial.{Trial as Taken}
-use Rattle.rx_search.specs.Known.{AreOf, AreRight, CanBeTried, IsRight, IsRightChoice, seen_known}
-use Rattle.rx_search.specs.Menu.{Attempted, attempted, attempted_all, attempted_by, if_noted}
+use Rattle.rx_search.specs.Known.{AreOf, AreRight, CanBeTried, IsRight, IsRightChoice, known_lemma, seen_known}
+use Rattle.rx_search.specs.Menu.{Attempted, attempted, attempted_all, attempted_by}
 use Rattle.rx_search.specs.Nodes.{KeepsNone}
 use Rattle.rx_search.specs.declared.node_choices.KnownChoice.{KnownChoice}
 use Rattle.rx_search.proofs.Trying.{attempt_keeps}
@@ -128,34 +130,62 @@ module _ (parts : RuleParts) (goal : Equation) where
       }) old new refl
       (record { taken = tt; unkept = λ e. ap (λ (s : State). s.hypotheses) alone_after }) pushed are
 
-  -- ---- of all candidates
+  -- ---- lemmas
 
   abbrev at : Candidate → Attempted
   at = attempted_by parts (alone goal)
 
-  -- and then nothing more
-  pub none_noted : (found : Candidates) (known : List KnownChoice) → found.noted ≡ false →
-      AreOf parts goal (map at found.all) known →
-      AreOf parts goal (attempted_all parts (alone goal) found) known
-  none_noted found known none are =
-      subst (λ b. AreOf parts goal (map at found.all ++ if_noted b) known) (sym none)
-      (subst (λ cs. AreOf parts goal cs known) (sym (append-nil (map at found.all))) are)
+  lemmas_seen : (ls : List Lemma) → All (IsShown parts goal) ls →
+      map seen_known (map known_lemma ls) ≡ map at (map lemma_candidate (map general ls))
+  lemmas_seen [] all = refl
+  lemmas_seen (l ∷ ls) all =
+      let first = ap (attempted (number_of l.kind) false)
+      (sym (All-head (IsShown parts goal) l ls all).shown) in
+      let rest = lemmas_seen ls (All-tail (IsShown parts goal) l ls all) in
+      λ i. first i ∷ rest i
 
-  pub all_noted : (found : Candidates) (known : List KnownChoice) → found.noted ≡ true →
-      AreOf parts goal (map at found.all ++ attempted 6 false beyond ∷ []) known →
-      AreOf parts goal (attempted_all parts (alone goal) found) known
-  all_noted found known noted are =
-      subst (λ b. AreOf parts goal (map at found.all ++ if_noted b) known) (sym noted) are
+  lemmas_right : (ls : List Lemma) → All (IsShown parts goal) ls →
+      All (IsRightChoice parts goal) (map known_lemma ls)
+  lemmas_right [] all = All-nil (IsRightChoice parts goal)
+  lemmas_right (l ∷ ls) all =
+      All-cons (IsRightChoice parts goal) (known_lemma l) (map known_lemma ls)
+      (record {
+        taken = (All-head (IsShown parts goal) l ls all).taken;
+        unkept = λ e. refl;
+      })
+      (lemmas_right ls (All-tail (IsShown parts goal) l ls all))
+
+  module _ (old new : List KnownChoice) (are : AreOf parts goal (map at expansions) old) where
+    with_lemmas : (ls : List Lemma) → AreLemmas parts goal ls →
+        IsRight parts goal (old ++ map known_lemma ls)
+    with_lemmas ls found = record {
+      seen =
+          map-append seen_known old (map known_lemma ls)
+          ∙ (λ i. are.seen i ++ lemmas_seen ls found.shown i)
+          ∙ sym (ap (attempted_all parts (alone goal)) found.all);
+      right =
+          All-append (IsRightChoice parts goal) old (map known_lemma ls) are.right
+          (lemmas_right ls found.shown);
+    }
+
+    -- of a call
+    pub lemmas_grow : {A E : Type 0} (ls : List Lemma) → AreLemmas parts goal ls →
+        (result : Result A E) → OnOk result (new ≡ old ++ map known_lemma ls) →
+        OnOk result (IsRight parts goal new)
+    lemmas_grow ls found (Ok x) same =
+        subst (IsRight parts goal) (sym same) (with_lemmas ls found)
+    lemmas_grow ls found (Err e) same = tt
+
+  -- where they pass the limits
+  pub none_grow : {A E : Type 0} (new : List KnownChoice) → lemmas_at parts goal ≡ None →
+      (result : Result A E) →
+      OnOk result (AreOf parts goal (attempted_all parts (alone goal) None) new) →
+      OnOk result (IsRight parts goal new)
+  none_grow new none (Ok x) are =
+      subst (λ made. AreOf parts goal (attempted_all parts (alone goal) made) new) (sym none) are
+  none_grow new none (Err e) are = tt
 
 -- ---- what can be tried
-
-can_lemma : (l : Generalisation) → CanBeTried (lemma_candidate l)
-can_lemma l = record { rows = refl; unkept = λ e. tt }
-
-can_lemmas : (ls : List Generalisation) → All CanBeTried (map lemma_candidate ls)
-can_lemmas [] = All-nil CanBeTried
-can_lemmas (l ∷ ls) =
-    All-cons CanBeTried (lemma_candidate l) (map lemma_candidate ls) (can_lemma l) (can_lemmas ls)
 
 abbrev expanding : ℕ → Side → Bool → Candidate
 expanding number side keep =
@@ -193,18 +223,8 @@ can_next =
 can_all : All CanBeTried expansions
 can_all = All-cons CanBeTried (expanding 1 Left true) next (can_expand 1 Left true) can_next
 
-can_expansions : (others : List Candidate) → All CanBeTried others →
-    All CanBeTried (expansions ++ others)
-can_expansions others can = All-append CanBeTried expansions others can_all can
-
-can_by : (made : Option (List Generalisation)) → All CanBeTried (candidates_by made).all
-can_by None = can_all
-can_by (Some ls) = can_expansions (map lemma_candidate ls) (can_lemmas ls)
-
-pub all_can : (found : Candidates) (made : Option (List Generalisation)) →
-    found ≡ candidates_by made → All CanBeTried found.all
-all_can found made is =
-    subst (λ (c : Candidates). All CanBeTried c.all) (sym is) (can_by made)
+pub all_can : (all : List Candidate) → all ≡ expansions → All CanBeTried all
+all_can all is = subst (All CanBeTried) (sym is) can_all
 
 -- ---- a memo
 

@@ -6,7 +6,7 @@ use Rattle.std.specs.Option.{option_map}
 use Rattle.rx_plain.specs.declared.no_memory.NoMemory.{NoMemory}
 use Rattle.std.proofs.lemmas.List.{append-nil}
 use Rattle.std.proofs.lemmas.List.Elements.{All-weaker}
-use Rattle.rx_solve.specs.Attempts.{Tried}
+use Rattle.rx_solve.specs.Attempts.{Tried, beyond}
 use Rattle.rx_term.specs.declared.rule.Equation.{Equation}
 use Rattle.rx_term.specs.declared.rule.Rule.{Rule}
 use Rattle.rx_term.specs.declared.rule_set.RuleParts.{RuleParts}
@@ -14,8 +14,8 @@ use Rattle.rx_inference.specs.Kinds.{formed}
 use Rattle.rx_inference.specs.States.{State}
 use Rattle.rx_inference.specs.declared.step.Side.TheVariants.{Left, Right}
 use Rattle.rx_inference.specs.declared.step.Step.{Step}
-use Rattle.rx_lemma.specs.Generalising.{generalisations}
 use Rattle.rx_lemma.specs.Lemmas.{Generalisation}
+use Rattle.rx_find_lemmas.specs.Finding.{lemmas_at}
 use Rattle.rx_rank.specs.Ranking.{ranked}
 use Rattle.rx_rank.specs.declared.kind.RankingKind.{RankingKind}
 use Rattle.rx_steps.specs.Alone.{alone, onto}
@@ -24,8 +24,8 @@ use Rattle.rx_settle.specs.Known.{lifted}
 use Rattle.rx_moves.specs.Moves.{Decompose, Expand, Generalise, Move, move_of, step_of}
 use Rattle.rx_moves.specs.Trying.{Next, attempt}
 use Rattle.rx_search.specs.Known.{IsRight, IsRightAt, IsRightChoice, attempted_onto, chosen_by, seen_known, tried_at}
-use Rattle.rx_search.specs.Candidates.{candidates_by, lemma_candidate, number_of}
-use Rattle.rx_search.specs.Menu.{Attempted, attempted, attempted_all, attempted_at, attempted_by, chosen_at, chosen_of, if_noted, if_ranks}
+use Rattle.rx_search.specs.Candidates.{lemma_candidate, number_of}
+use Rattle.rx_search.specs.Menu.{Attempted, attempted, attempted_all, attempted_at, attempted_by, chosen_at, chosen_of, if_ranks}
 use Rattle.rx_search.specs.Calls.{led}
 use Rattle.rx_search.specs.Nodes.{IsNode, IsReached, IsTried, if_ranked}
 use Rattle.rx_search.specs.declared.node_choices.Trial.{Trial}
@@ -57,9 +57,8 @@ module _ (parts : RuleParts) (goal : Equation) (goals : List Equation)
       ap (attempted number keeps) (attempt_lifted parts goal goals hypotheses move same)
 
   each_onto : (ls : List Generalisation) →
-      map (attempted_by parts here) (map lemma_candidate ls) ++ [] ≡
-      map (attempted_onto here)
-      (map (attempted_by parts (alone goal)) (map lemma_candidate ls) ++ [])
+      map (attempted_by parts here) (map lemma_candidate ls) ≡
+      map (attempted_onto here) (map (attempted_by parts (alone goal)) (map lemma_candidate ls))
   each_onto [] = refl
   each_onto (l ∷ ls) = λ i.
       one_onto (number_of l.kind) false (Generalise l.goal l.subst) refl i ∷ each_onto ls i
@@ -87,17 +86,17 @@ module _ (parts : RuleParts) (goal : Equation) (goals : List Equation)
       ∷ one_onto 5 false Decompose refl i
       ∷ same i
 
-  all_onto_by : (made : Option (List Generalisation)) →
-      attempted_all parts here (candidates_by made) ≡
-      map (attempted_onto here) (attempted_all parts (alone goal) (candidates_by made))
-  all_onto_by None = steps_onto (if_noted true) (if_noted true) refl
+  all_onto_by : (made : Option (List Generalisation)) → attempted_all parts here made ≡
+      map (attempted_onto here) (attempted_all parts (alone goal) made)
+  all_onto_by None =
+      steps_onto (attempted 6 false beyond ∷ []) (attempted 6 false beyond ∷ []) refl
   all_onto_by (Some ls) =
-      steps_onto (map (attempted_by parts here) (map lemma_candidate ls) ++ [])
-      (map (attempted_by parts (alone goal)) (map lemma_candidate ls) ++ []) (each_onto ls)
+      steps_onto (map (attempted_by parts here) (map lemma_candidate ls))
+      (map (attempted_by parts (alone goal)) (map lemma_candidate ls)) (each_onto ls)
 
   all_onto : attempted_at parts here goal ≡
       map (attempted_onto here) (attempted_at parts (alone goal) goal)
-  all_onto = all_onto_by (generalisations parts goal)
+  all_onto = all_onto_by (lemmas_at parts goal)
 
   known_here : (kind : RankingKind) (ks : List KnownChoice) → map seen_known ks ≡
       attempted_at parts (alone goal) goal

@@ -1,12 +1,11 @@
 -- The choices at a goal, before they are tried: the four expansions, Decompose, and lemmas.
-use Rattle.std.specs.Prelude.{ℕ, true, false, Option, Some, None, List, [], ◌∷◌, ◌++◌, map}
+use Rattle.std.specs.Prelude.{ℕ, true, false, List, [], ◌∷◌}
 use Rattle.rx_inference.specs.declared.step.Side.TheVariants.{Left, Right}
 use Rattle.rx_inference.specs.declared.step.Step.TheVariants as steps
 use Rattle.rx_lemma.specs.Lemmas.{Generalisation}
 use Rattle.rx_lemma.specs.declared.lemma.LemmaKind.{LemmaKind}
 use Rattle.rx_lemma.specs.declared.lemma.LemmaKind.TheVariants.{NameConstants, DropValues, ReplaceRepeated}
 use Rattle.rx_search.specs.declared.candidates.Candidate.{Candidate}
-use Rattle.rx_search.specs.declared.candidates.Candidates.{Candidates}
 
 -- Expand of each side that keeps the goal, and then that doesn't; and Decompose
 abbrev pub expansions : List Candidate
@@ -31,9 +30,3 @@ lemma_candidate lemma = record {
   keeps = false;
   step = steps.Generalise lemma.goal.left lemma.goal.right lemma.goal.rows lemma.subst [];
 }
-
--- all choices in order; where the lemmas pass the limits none is there, and that is noted
-abbrev pub candidates_by : Option (List Generalisation) → Candidates
-candidates_by None = record { all = expansions; noted = true }
-candidates_by (Some lemmas) =
-    record { all = expansions ++ map lemma_candidate lemmas; noted = false }

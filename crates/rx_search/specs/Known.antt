@@ -14,6 +14,9 @@ use Rattle.rx_steps.specs.Alone.{alone}
 use Rattle.rx_moves.specs.Answers.{IsTaken}
 use Rattle.rx_moves.specs.Moves.{move_of}
 use Rattle.rx_moves.specs.Trying.{Next}
+use Rattle.rx_find_lemmas.specs.Lemmas.{step_to}
+use Rattle.rx_find_lemmas.specs.declared.lemma.Lemma.{Lemma}
+use Rattle.rx_search.specs.Candidates.{number_of}
 use Rattle.rx_search.specs.declared.candidates.Candidate.{Candidate}
 use Rattle.rx_search.specs.declared.node_choices.KnownChoice.{KnownChoice}
 use Rattle.rx_settle.specs.Certified.{asks_rows}
@@ -34,6 +37,16 @@ pub record CanBeTried (c : Candidate) : Type 0 where
   pub unkept : c.keeps ≡ false → KeepsNone (move_of c.step)
 
 -- ---- what calls know
+
+-- a lemma as a known choice: its step applies where the goal is alone
+abbrev pub known_lemma : Lemma → KnownChoice
+known_lemma lemma = record {
+  number = number_of lemma.kind;
+  keeps = false;
+  step = Some (step_to lemma);
+  noted = false;
+  after = alone lemma.goal;
+}
 
 -- the move of the step and the state after it, if it applies
 abbrev pub next_known : KnownChoice → Option Next

@@ -1,20 +1,20 @@
 -- The choices at a settled goal: the four expansions, Decompose, and lemmas. Each that applies
 -- leads to another node; one that keeps the goal as a hypothesis only where ranks are found with
 -- it.
-use Rattle.std.specs.Prelude.{if◌then◌else◌, ℕ, Bool, false, List, [], ◌∷◌, ◌++◌, map}
+use Rattle.std.specs.Prelude.{if◌then◌else◌, ℕ, Bool, false, Option, Some, None, List, [], ◌∷◌, ◌++◌, map}
 use Rattle.std.specs.List.{list_any}
 use Rattle.rx_solve.specs.Attempts.{Tried, beyond, where_shown}
 use Rattle.rx_term.specs.declared.rule.Equation.{Equation}
 use Rattle.rx_term.specs.declared.rule_set.RuleParts.{RuleParts}
 use Rattle.rx_inference.specs.States.{State}
-use Rattle.rx_lemma.specs.Generalising.{generalisations}
+use Rattle.rx_lemma.specs.Lemmas.{Generalisation}
+use Rattle.rx_find_lemmas.specs.Finding.{lemmas_at}
 use Rattle.rx_rank.specs.Ranking.{ranked}
 use Rattle.rx_rank.specs.declared.kind.RankingKind.{RankingKind}
 use Rattle.rx_moves.specs.Moves.{move_of}
 use Rattle.rx_moves.specs.Trying.{Next, attempt, then_try}
-use Rattle.rx_search.specs.Candidates.{candidates_by}
+use Rattle.rx_search.specs.Candidates.{expansions, lemma_candidate}
 use Rattle.rx_search.specs.declared.candidates.Candidate.{Candidate}
-use Rattle.rx_search.specs.declared.candidates.Candidates.{Candidates}
 
 -- ---- choices before ranks are found
 
@@ -28,21 +28,22 @@ pub record Attempted : Type 0 where
 abbrev pub attempted : ℕ → Bool → Tried Next → Attempted
 attempted number keeps tried = record { number = number; keeps = keeps; tried = tried }
 
--- where lemmas pass the limits none applies, and that is noted once
-abbrev pub if_noted : Bool → List Attempted
-if_noted noted = if noted then attempted 6 false beyond ∷ [] else []
-
 module _ (parts : RuleParts) (state : State) where
   -- what comes of a choice
   abbrev pub attempted_by : Candidate → Attempted
   attempted_by c = attempted c.number c.keeps (attempt parts state (move_of c.step))
 
+  -- of lemmas; where they pass the limits none applies, and that is noted once
+  abbrev pub attempted_lemmas : Option (List Generalisation) → List Attempted
+  attempted_lemmas None = attempted 6 false beyond ∷ []
+  attempted_lemmas (Some ls) = map attempted_by (map lemma_candidate ls)
+
   -- what comes of all, in order
-  abbrev pub attempted_all : Candidates → List Attempted
-  attempted_all found = map attempted_by found.all ++ if_noted found.noted
+  abbrev pub attempted_all : Option (List Generalisation) → List Attempted
+  attempted_all lemmas = map attempted_by expansions ++ attempted_lemmas lemmas
 
   abbrev pub attempted_at : Equation → List Attempted
-  attempted_at goal = attempted_all (candidates_by (generalisations parts goal))
+  attempted_at goal = attempted_all (lemmas_at parts goal)
 
 -- ---- choices
 

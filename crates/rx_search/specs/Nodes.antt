@@ -70,9 +70,11 @@ if_ranked Beyond node noted = record { node = None; noted = true }
 
 -- ---- what is searched
 
--- the rules, how they are ranked, and the goal; and which solver is asked
+-- the rules, how they are ranked, and the goal; and which solver and which finder of lemmas are
+-- asked
 pub record Problem : Type 0 where
   pub kind : RankingKind
   pub parts : RuleParts
   pub goal : Equation
   pub solver : GName
+  pub finder : GName

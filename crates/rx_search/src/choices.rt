@@ -1,5 +1,6 @@
 //! The choices at a settled node: what is known of its first goal, put among the node's others.
 ghost use Rattle.std.specs.Prelude.{◌≡◌, ◌∷◌, ◌++◌, [], All, IfOk, IfSome, None, OnOk, Some, map, slice_get, List};
+ghost use Rattle.rx_find_lemmas.specs.Finders.{IsLemmaFinder};
 ghost use Rattle.rx_pairs.specs.Inside.{listing};
 ghost use Rattle.rx_pairs.specs.Pairs.{HasRoot, SidesFit};
 ghost use Rattle.rx_rank.specs.Ranking.{ranked};
@@ -15,11 +16,12 @@ use crate::node::Node;
 use crate::node_choices::{Choices, KnownChoice, Trial};
 use crate::search_space::SearchSpace;
 use rx_cert::Cert;
+use rx_find_lemmas::Lemma;
 use rx_fm::FmEnd;
 use rx_has_ranks::{RankMemo, has_ranks_with};
-use rx_plain::{NoMemory, Shared};
+use rx_plain::{Items, NoMemory, Shared};
 use rx_row::Constraint;
-use rx_term::Equation;
+use rx_term::{Equation, RuleSet};
 use std::alloc::Global;
 
 /// How many steps settle a state at most.
@@ -160,7 +162,10 @@ fn add_all<S: FnMut(&Constraint) -> Result<Option<Cert>, FmEnd>>(
 
 /// The choices at the node, whose first goal is this, by their numbers: Expand of each side that
 /// keeps the goal, and then that doesn't; Decompose; and the lemmas of the goal.
-pub(crate) fn find_choices<S: FnMut(&Constraint) -> Result<Option<Cert>, FmEnd>>(
+pub(crate) fn find_choices<
+    S: FnMut(&Constraint) -> Result<Option<Cert>, FmEnd>,
+    L: FnMut(&Equation, &RuleSet, &mut S) -> Result<Items<Lemma>, FmEnd>,
+>(
     alloc: Global,
     space: &SearchSpace<'_>,
     node: &Node,
@@ -168,6 +173,7 @@ pub(crate) fn find_choices<S: FnMut(&Constraint) -> Result<Option<Cert>, FmEnd>>
     memo: &mut RankMemo,
     known: &mut ChoiceMemo,
     solve: &mut S,
+    lemma: &mut L,
 ) -> Result<Choices, NoMemory>
     requires reached { (goal : Equation) × IsReached space.now.rules.now goal node.now }
     requires first { Some first ≡ slice_get node.now.state.goals 0 }
@@ -175,15 +181,17 @@ pub(crate) fn find_choices<S: FnMut(&Constraint) -> Result<Option<Cert>, FmEnd>>
         listing space.now.rules.now space.now.rules.now.rules }
     requires known { AreRight space.now.rules.now known.old }
     requires solver { IsSolver S.FnMut solve.old }
+    requires lemma { IsLemmaFinder S.FnMut L.FnMut lemma.old }
     ensures known { AreRight space.now.rules.now known.new }
     ensures solver { IsSolver S.FnMut solve.new }
+    ensures lemma { IsLemmaFinder S.FnMut L.FnMut lemma.new }
     ensures choices { IfOk result (AreChoices node.now
         (chosen_at space.now.kind space.now.rules.now node.now.state first)) }
     ensures nodes { (goal : Equation) → IsNode space.now.kind space.now.rules.now goal node.now →
         IfOk result (λ f. All (λ c. IsNode space.now.kind space.now.rules.now goal c.node)
         f.choices) }
 {
-    let choices = known_choices(alloc, space.rules, known, first, solve)?;
+    let choices = known_choices(alloc, space.rules, known, first, solve, lemma)?;
     let all = choices.get().as_slice();
     let found = add_all(alloc, space, node, all, memo, solve);
     dropped(choices, found)

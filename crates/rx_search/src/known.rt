@@ -1,18 +1,24 @@
 //! What is known of a goal: what comes of each choice where it is alone. A search meets the same
 //! goals often.
-ghost use Rattle.std.specs.Prelude.{◌≡◌, ◌∷◌, ◌++◌, [], All, IfOk, OnOk, List, false, map};
-ghost use Rattle.rx_search.specs.Known.{AreOf, AreRight, CanBeTried, IsRight, IsRightChoice, seen_known};
+ghost use Rattle.std.specs.Prelude.{◌≡◌, ◌∷◌, ◌++◌, [], All, IfOk, OnOk, List, None, false, map};
+ghost use Rattle.rx_find_lemmas.specs.Finders.{FindsLemmas, IsLemmaFinder};
+ghost use Rattle.rx_find_lemmas.specs.Finding.{lemmas_at};
+ghost use Rattle.rx_fm.specs.declared.fm_end.FmEnd.TheVariants.{Large};
+ghost use Rattle.rx_search.specs.Candidates.{expansions};
+ghost use Rattle.rx_search.specs.Known.{AreOf, AreRight, CanBeTried, IsRight, IsRightChoice, known_lemma, seen_known};
 ghost use Rattle.rx_search.specs.Menu.{Attempted, attempted, attempted_by};
 ghost use Rattle.rx_solve.specs.Answers.{IsSolver};
 ghost use Rattle.rx_solve.specs.Attempts.{beyond};
 ghost use Rattle.rx_steps.specs.Alone.{alone};
 ghost use Rattle.rx_term.specs.declared.rule_set.RuleParts.{RuleParts};
 
-use crate::candidates::{Candidate, find_candidates};
+use crate::candidates::{Candidate, expansions, number_of};
 use crate::dropping::dropped;
 use crate::node_choices::KnownChoice;
 use rx_cert::Cert;
+use rx_find_lemmas::{Lemma, ask_lemmas};
 use rx_fm::FmEnd;
+use rx_inference::Step;
 use rx_memo::GoalMemo;
 use rx_plain::{Items, NoMemory, Shared};
 use rx_row::Constraint;
@@ -122,23 +128,96 @@ fn push_noted(
     })?)
 }
 
+/// What is known of a choice by a lemma: its step applies, by its own certificates.
+fn known_lemma(alloc: Global, lemma: Lemma) -> Result<KnownChoice, NoMemory>
+    ensures { IfOk result (λ k. k ≡ known_lemma lemma) }
+{
+    let Lemma {
+        kind,
+        goal,
+        subst,
+        certs,
+    } = lemma;
+    let after = State::start(alloc, goal.try_clone(alloc)?)?;
+    let Equation { left, right, rows } = goal;
+    let step = Step::Generalise {
+        left,
+        right,
+        rows,
+        subst,
+        certs,
+    };
+    KnownChoice::new(alloc, number_of(kind), false, Some(step), false, after)
+}
+
+/// One more choice for each lemma, in order.
+fn push_lemmas(
+    alloc: Global,
+    known: &mut Items<KnownChoice>,
+    lemmas: Items<Lemma>,
+) -> Result<(), NoMemory>
+    ensures { OnOk result (known.new ≡ known.old ++ map known_lemma lemmas) }
+{
+    for lemma in lemmas.into_vec() {
+        known.push(known_lemma(alloc, lemma)?)?;
+    }
+    Ok(())
+}
+
+/// That the lemmas pass the limits, after the other choices, where they end so.
+fn note_end(
+    alloc: Global,
+    goal: &Shared<Equation>,
+    known: &mut Items<KnownChoice>,
+    end: FmEnd,
+) -> Result<(), NoMemory>
+    ensures { (parts : RuleParts) → (end ≡ Large → lemmas_at parts goal.now ≡ None) →
+        AreOf parts goal.now (map (attempted_by parts (alone goal.now)) expansions) known.old →
+        OnOk result (IsRight parts goal.now known.new) }
+{
+    match end {
+        FmEnd::Large => push_noted(alloc, goal, known),
+        FmEnd::NoMemory => Err(NoMemory),
+    }
+}
+
+/// The choices by lemmas after the others.
+fn add_lemmas(
+    alloc: Global,
+    goal: &Shared<Equation>,
+    known: &mut Items<KnownChoice>,
+    found: Result<Items<Lemma>, FmEnd>,
+) -> Result<(), NoMemory>
+    ensures { (parts : RuleParts) → FindsLemmas parts goal.now found →
+        AreOf parts goal.now (map (attempted_by parts (alone goal.now)) expansions) known.old →
+        OnOk result (IsRight parts goal.now known.new) }
+{
+    match found {
+        Ok(lemmas) => push_lemmas(alloc, known, lemmas),
+        Err(end) => note_end(alloc, goal, known, end),
+    }
+}
+
 /// What comes of each choice where the goal is alone.
-fn find_alone<S: FnMut(&Constraint) -> Result<Option<Cert>, FmEnd>>(
+fn find_alone<
+    S: FnMut(&Constraint) -> Result<Option<Cert>, FmEnd>,
+    L: FnMut(&Equation, &RuleSet, &mut S) -> Result<Items<Lemma>, FmEnd>,
+>(
     alloc: Global,
     rules: &RuleSet,
     goal: &Shared<Equation>,
     solve: &mut S,
+    lemma: &mut L,
 ) -> Result<Items<KnownChoice>, NoMemory>
     requires solver { IsSolver S.FnMut solve.old }
+    requires lemma { IsLemmaFinder S.FnMut L.FnMut lemma.old }
     ensures solver { IsSolver S.FnMut solve.new }
+    ensures lemma { IsLemmaFinder S.FnMut L.FnMut lemma.new }
     ensures right { IfOk result (IsRight rules.now goal.now) }
 {
-    let found = find_candidates(alloc, rules, goal.get(), solve)?;
-    let mut known = try_each(alloc, rules, goal, found.all, solve)?;
-    if !found.noted {
-        return Ok(known);
-    }
-    match push_noted(alloc, goal, &mut known) {
+    let mut known = try_each(alloc, rules, goal, expansions(alloc)?, solve)?;
+    let found = ask_lemmas(goal.get(), rules, solve, lemma);
+    match add_lemmas(alloc, goal, &mut known, found) {
         Ok(()) => Ok(known),
         Err(NoMemory) => Err(dropped(known, NoMemory)),
     }
@@ -146,23 +225,29 @@ fn find_alone<S: FnMut(&Constraint) -> Result<Option<Cert>, FmEnd>>(
 
 /// What is known of the choices at the goal. Where nothing is kept of it, it is found, and kept if
 /// there is room.
-pub(crate) fn known_choices<S: FnMut(&Constraint) -> Result<Option<Cert>, FmEnd>>(
+pub(crate) fn known_choices<
+    S: FnMut(&Constraint) -> Result<Option<Cert>, FmEnd>,
+    L: FnMut(&Equation, &RuleSet, &mut S) -> Result<Items<Lemma>, FmEnd>,
+>(
     alloc: Global,
     rules: &RuleSet,
     memo: &mut ChoiceMemo,
     goal: Shared<Equation>,
     solve: &mut S,
+    lemma: &mut L,
 ) -> Result<Shared<Items<KnownChoice>>, NoMemory>
     requires known { AreRight rules.now memo.old }
     requires solver { IsSolver S.FnMut solve.old }
+    requires lemma { IsLemmaFinder S.FnMut L.FnMut lemma.old }
     ensures known { AreRight rules.now memo.new }
     ensures solver { IsSolver S.FnMut solve.new }
+    ensures lemma { IsLemmaFinder S.FnMut L.FnMut lemma.new }
     ensures right { IfOk result (IsRight rules.now goal) }
 {
     if let Some(known) = memo.find(goal.get()) {
         return Ok(known.try_clone()?);
     }
-    let known = Shared::new(alloc, find_alone(alloc, rules, &goal, solve)?)?;
+    let known = Shared::new(alloc, find_alone(alloc, rules, &goal, solve, lemma)?)?;
     memo.keep(goal, known.try_clone()?)?;
     Ok(known)
 }

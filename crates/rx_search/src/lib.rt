@@ -3,9 +3,8 @@
 //! What a reader may rely on: `Search::search` comes to exactly what the definition in
 //! `specs/Search` says, and each log that it makes is accepted.
 //!
-//! Its nodes, and the choices at them, stand apart from what is tried: `find_candidates` gives
-//! exactly the choices of the definition in `specs/Candidates`, and a node that a choice leads to
-//! is exactly what `specs/Calls` says.
+//! It asks two closures: one refutes rows, and the other finds the lemmas of a goal. What they
+//! answer isn't shown again. A node that a choice leads to is exactly what `specs/Calls` says.
 #![tactic(auto)]
 
 mod beginning;
@@ -22,7 +21,7 @@ mod search_end;
 mod search_space;
 
 pub use beginning::{Beginning, Inside, begin, rule_pairs};
-pub use candidates::{Candidate, Candidates, find_candidates};
+pub use candidates::Candidate;
 pub use node::{Node, copied_rows, is_closed};
 pub use node_choices::{Choices, KnownChoice, Trial};
 pub use rx_fm::FmEnd;

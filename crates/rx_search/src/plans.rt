@@ -18,6 +18,7 @@ use crate::node::{Node, is_closed};
 use crate::search_space::SearchSpace;
 use rx_cert::Cert;
 use rx_deepening::{Menu, Settled, Tree};
+use rx_find_lemmas::Lemma;
 use rx_fm::FmEnd;
 use rx_has_ranks::RankMemo;
 use rx_moves::LoopPoints;
@@ -75,7 +76,7 @@ fn settle_node<S: FnMut(&Constraint) -> Result<Option<Cert>, FmEnd>>(
 
 /// The plans for a goal over rules.
 #[derive(Drop)]
-pub(crate) struct Plans<'a, S> {
+pub(crate) struct Plans<'a, 'l, S, L> {
     /// The allocator.
     pub(crate) alloc: Global,
     /// The rules, and how they are ranked.
@@ -92,10 +93,18 @@ pub(crate) struct Plans<'a, S> {
     pub(crate) rank_memo: &'a mut RankMemo,
     /// What refutes rows.
     pub(crate) solve: &'a mut S,
+    /// What finds lemmas.
+    pub(crate) lemma: &'l mut L,
 }
 
-impl<'a, S: FnMut(&Constraint) -> Result<Option<Cert>, FmEnd>> Tree for Plans<'a, S> {
+impl<
+    'a,
+    'l,
+    S: FnMut(&Constraint) -> Result<Option<Cert>, FmEnd>,
+    L: FnMut(&Equation, &RuleSet, &mut S) -> Result<Items<Lemma>, FmEnd>,
+> Tree for Plans<'a, 'l, S, L> {
     ghost use Rattle.std.specs.Prelude.{◌≡◌, List};
+    ghost use Rattle.rx_find_lemmas.specs.Finders.{IsLemmaFinder};
     ghost use Rattle.rx_search.specs.Calls.{node_of};
     ghost use Rattle.rx_search.specs.NodeNodes as nodes;
     ghost use Rattle.rx_pairs.specs.Inside.{listing};
@@ -119,9 +128,11 @@ impl<'a, S: FnMut(&Constraint) -> Result<Option<Cert>, FmEnd>> Tree for Plans<'a
       goal = p.goal.now;
       solver =
           p.solve.ghost_name;
+      finder = p.lemma.ghost_name;
     } };
 
-    ghost ready = { λ p. IsSolver S.FnMut p.solve.now × AreLoopPoints p.space.now.rules.now
+    ghost ready = { λ p. IsSolver S.FnMut p.solve.now ×
+        IsLemmaFinder S.FnMut L.FnMut p.lemma.now × AreLoopPoints p.space.now.rules.now
         p.points.now ×
         (p.space.now.listed.now ≡ listing p.space.now.rules.now p.space.now.rules.now.rules) ×
         AreKnown p.space.now.rules.now p.settle_memo.now ×
@@ -156,6 +167,7 @@ impl<'a, S: FnMut(&Constraint) -> Result<Option<Cert>, FmEnd>> Tree for Plans<'a
             self.rank_memo,
             self.choice_memo,
             self.solve,
+            self.lemma,
         )
     }
 }

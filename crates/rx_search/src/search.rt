@@ -14,6 +14,7 @@ ghost use Rattle.rx_pairs.specs.Inside.{listing};
 ghost use Rattle.rx_pairs.specs.Pairs.{HasRoot, SidesFit};
 ghost use Rattle.rx_rank.specs.Ranking.{ranked};
 ghost use Rattle.rx_rank.specs.declared.kind.RankingKind.{RankingKind};
+ghost use Rattle.rx_find_lemmas.specs.Finders.{IsLemmaFinder};
 ghost use Rattle.rx_find_ranks.specs.Found.{HasColumns, LowersAll};
 ghost use Rattle.rx_search.specs.Ends.{IsEnd};
 ghost use Rattle.rx_search.specs.Nodes.{IsNode, IsProved};
@@ -38,6 +39,7 @@ use rx_cover::CoverTree;
 use rx_deepening::{Note, Outcome};
 use rx_domain::Domains;
 use rx_find_cover::find_cover;
+use rx_find_lemmas::Lemma;
 use rx_find_ranks::{Ranking, find_ranks_with};
 use rx_fm::FmEnd;
 use rx_has_ranks::RankMemo;
@@ -52,14 +54,16 @@ use rx_row::{Constraint, Row};
 use rx_settle::{SettleMemo, own_steps};
 use rx_term::{Equation, Rule, RuleSet};
 use std::alloc::Global;
-use std::marker::Model;
 
 /// How many nodes are kept from one list of visits to the next, at most, unless another number is
 /// given.
 pub const MOST_KEPT: usize = 32_768;
 
 /// What the visits of the plans for the goal come to.
-fn visit_plans<S: FnMut(&Constraint) -> Result<Option<Cert>, FmEnd>>(
+fn visit_plans<
+    S: FnMut(&Constraint) -> Result<Option<Cert>, FmEnd>,
+    L: FnMut(&Equation, &RuleSet, &mut S) -> Result<Items<Lemma>, FmEnd>,
+>(
     alloc: Global,
     space: &SearchSpace<'_>,
     goal: &Equation,
@@ -68,13 +72,16 @@ fn visit_plans<S: FnMut(&Constraint) -> Result<Option<Cert>, FmEnd>>(
     most_kept: usize,
     rank_memo: &mut RankMemo,
     solve: &mut S,
+    lemma: &mut L,
 ) -> Result<Outcome<Node, Items<Row>>, NoMemory>
     requires listed { space.now.listed.now ≡
         listing space.now.rules.now space.now.rules.now.rules }
     requires fits { IsFitting space.now.rules.now goal.now }
     requires ranked { ranked space.now.kind space.now.rules.now [] ≡ Yes }
     requires solver { IsSolver S.FnMut solve.old }
+    requires lemma { IsLemmaFinder S.FnMut L.FnMut lemma.old }
     ensures solver { IsSolver S.FnMut solve.new }
+    ensures lemma { IsLemmaFinder S.FnMut L.FnMut lemma.new }
     ensures outcome { IfOk result (λ o. seen_outcome node_of o ≡
         outcome budget (all_visits (settled space.now.rules.now)
         (menu space.now.kind space.now.rules.now) depth (start goal.now))) }
@@ -95,6 +102,7 @@ fn visit_plans<S: FnMut(&Constraint) -> Result<Option<Cert>, FmEnd>>(
         choice_memo: &mut choice_memo,
         rank_memo,
         solve,
+        lemma,
     };
     rx_deepening::search(alloc, &mut plans, start, depth, budget, most_kept)
 }
@@ -205,7 +213,10 @@ pub fn log_of<S: FnMut(&Constraint) -> Result<Option<Cert>, FmEnd>>(
 /// The answer is a log without domains, which is accepted for the goal and the rules with the
 /// domains that these have; no certificate and no tree in it is deeper than 200, and its rank table
 /// has 1 to 15 columns. `NoPlan`, `Spent` and `Large` are as of `Search::search`.
-pub fn search_over<S: FnMut(&Constraint) -> Result<Option<Cert>, FmEnd>>(
+pub fn search_over<
+    S: FnMut(&Constraint) -> Result<Option<Cert>, FmEnd>,
+    L: FnMut(&Equation, &RuleSet, &mut S) -> Result<Items<Lemma>, FmEnd>,
+>(
     alloc: Global,
     space: &SearchSpace<'_>,
     goal: &Equation,
@@ -214,13 +225,16 @@ pub fn search_over<S: FnMut(&Constraint) -> Result<Option<Cert>, FmEnd>>(
     most_kept: usize,
     memo: &mut RankMemo,
     solve: &mut S,
+    lemma: &mut L,
 ) -> Result<Log, SearchEnd>
     requires ready { IsReady space.now.kind space.now.rules.now }
     requires listed { space.now.listed.now ≡
         listing space.now.rules.now space.now.rules.now.rules }
     requires fits { IsFitting space.now.rules.now goal.now }
     requires solver { IsSolver S.FnMut solve.old }
+    requires lemma { IsLemmaFinder S.FnMut L.FnMut lemma.old }
     ensures solver { IsSolver S.FnMut solve.new }
+    ensures lemma { IsLemmaFinder S.FnMut L.FnMut lemma.new }
     ensures steps { IfOk result (λ log.
         visited space.now.kind space.now.rules.now goal.now depth budget ≡
         Closed (map move_of log.steps)) }
@@ -232,7 +246,9 @@ pub fn search_over<S: FnMut(&Constraint) -> Result<Option<Cert>, FmEnd>>(
     ensures ends { IfErr result (λ e. IsEnd depth budget
         (visited space.now.kind space.now.rules.now goal.now depth budget) e) }
 {
-    let outcome = visit_plans(alloc, space, goal, depth, budget, most_kept, memo, solve)?;
+    let outcome = visit_plans(
+        alloc, space, goal, depth, budget, most_kept, memo, solve, lemma,
+    )?;
     match outcome {
         Outcome::Closed(node) => {
             let steps = node.steps.as_slice();
@@ -301,7 +317,10 @@ pub fn log_inside(log: Log, inside: Inside) -> Log
 }
 
 /// Searches inside domains as `search_over` does; the log has the domains.
-fn search_inside<S: FnMut(&Constraint) -> Result<Option<Cert>, FmEnd>>(
+fn search_inside<
+    S: FnMut(&Constraint) -> Result<Option<Cert>, FmEnd>,
+    L: FnMut(&Equation, &RuleSet, &mut S) -> Result<Items<Lemma>, FmEnd>,
+>(
     alloc: Global,
     inside: Inside,
     goal: &Equation,
@@ -310,12 +329,15 @@ fn search_inside<S: FnMut(&Constraint) -> Result<Option<Cert>, FmEnd>>(
     most_kept: usize,
     memo: &mut RankMemo,
     solve: &mut S,
+    lemma: &mut L,
 ) -> Result<Log, SearchEnd>
     requires ready { IsReady inside.kind inside.rules }
     requires listed { inside.listed ≡ listing inside.rules inside.rules.rules }
     requires fits { IsFitting inside.rules goal.now }
     requires solver { IsSolver S.FnMut solve.old }
+    requires lemma { IsLemmaFinder S.FnMut L.FnMut lemma.old }
     ensures solver { IsSolver S.FnMut solve.new }
+    ensures lemma { IsLemmaFinder S.FnMut L.FnMut lemma.new }
     ensures steps { IfOk result (λ log. visited inside.kind inside.rules goal.now depth budget ≡
         Closed (map move_of log.steps)) }
     ensures accepted { (parts : RuleParts) → IsInside parts goal.now inside →
@@ -338,7 +360,9 @@ fn search_inside<S: FnMut(&Constraint) -> Result<Option<Cert>, FmEnd>>(
         listed,
         kind: *kind,
     };
-    match search_over(alloc, &space, goal, depth, budget, most_kept, memo, solve) {
+    match search_over(
+        alloc, &space, goal, depth, budget, most_kept, memo, solve, lemma,
+    ) {
         Ok(log) => Ok(log_inside(log, inside)),
         Err(end) => Err(dropped(inside, end)),
     }
@@ -347,7 +371,10 @@ fn search_inside<S: FnMut(&Constraint) -> Result<Option<Cert>, FmEnd>>(
 /// Searches for a proof as `Search::search` does, with the pairs of the rules, and with a memo of
 /// what was found out of pairs, in which more is kept; at most `most_kept` nodes are kept from one
 /// list of visits to the next.
-pub fn search_with<S: FnMut(&Constraint) -> Result<Option<Cert>, FmEnd>>(
+pub fn search_with<
+    S: FnMut(&Constraint) -> Result<Option<Cert>, FmEnd>,
+    L: FnMut(&Equation, &RuleSet, &mut S) -> Result<Items<Lemma>, FmEnd>,
+>(
     alloc: Global,
     rules: &RuleSet,
     listed: &Listing,
@@ -357,12 +384,15 @@ pub fn search_with<S: FnMut(&Constraint) -> Result<Option<Cert>, FmEnd>>(
     most_kept: usize,
     memo: &mut RankMemo,
     solve: &mut S,
+    lemma: &mut L,
 ) -> Result<Log, SearchEnd>
     requires coverable { is_coverable rules.now ≡ true }
     requires listed { listed.now ≡ listing rules.now rules.now.rules }
     requires fits { IsFitting rules.now goal.now }
     requires solver { IsSolver S.FnMut solve.old }
+    requires lemma { IsLemmaFinder S.FnMut L.FnMut lemma.old }
     ensures solver { IsSolver S.FnMut solve.new }
+    ensures lemma { IsLemmaFinder S.FnMut L.FnMut lemma.new }
     ensures steps { IfOk result (λ log. searched rules.now goal.now depth budget ≡
         Closed (map move_of log.steps)) }
     ensures accepted { IfOk result (λ log. IsAccepted rules.now goal.now log) }
@@ -381,38 +411,40 @@ pub fn search_with<S: FnMut(&Constraint) -> Result<Option<Cert>, FmEnd>>(
                 listed,
                 kind: RankingKind::Plain,
             };
-            search_over(alloc, &space, goal, depth, budget, most_kept, memo, solve)
+            search_over(
+                alloc, &space, goal, depth, budget, most_kept, memo, solve, lemma,
+            )
         }
         Beginning::Inside(inside) => search_inside(
-            alloc, inside, goal, depth, budget, most_kept, memo, solve,
+            alloc, inside, goal, depth, budget, most_kept, memo, solve, lemma,
         ),
         Beginning::Unranked { noted } => Err(unranked_end(alloc, noted, goal)),
     }
 }
 
-/// A search for proofs, by what refutes rows. Contracts see the closure that it asks.
+/// A search for proofs, by what refutes rows and what finds lemmas.
 #[derive(Drop)]
-pub struct Search<S> {
+pub struct Search<S, L> {
     solve: S,
+    lemma: L,
     most_kept: usize,
 }
 
-impl<S> Model for Search<S> {
-    ghost Value = { S };
-
-    ghost coded = { S.code };
-
-    ghost view = { λ s. s.solve };
-}
-
-impl<S: FnMut(&Constraint) -> Result<Option<Cert>, FmEnd>> Search<S> {
-    /// A search that asks this closure. Takes no memory.
-    pub fn new(solve: S) -> Search<S>
-        requires { IsSolver S.FnMut solve }
-        ensures { IsSolver S.FnMut result }
+impl<
+    S: FnMut(&Constraint) -> Result<Option<Cert>, FmEnd>,
+    L: FnMut(&Equation, &RuleSet, &mut S) -> Result<Items<Lemma>, FmEnd>,
+> Search<S, L> {
+    /// A search that asks these closures: the second finds the lemmas of a goal, and is given the
+    /// first. What they answer is taken as it is. Takes no memory.
+    pub fn new(solve: S, lemma: L) -> Search<S, L>
+        requires solver { IsSolver S.FnMut solve }
+        requires lemma { IsLemmaFinder S.FnMut L.FnMut lemma }
+        ensures solver { IsSolver S.FnMut result.solve }
+        ensures lemma { IsLemmaFinder S.FnMut L.FnMut result.lemma }
     {
         Search {
             solve,
+            lemma,
             most_kept: MOST_KEPT,
         }
     }
@@ -420,12 +452,15 @@ impl<S: FnMut(&Constraint) -> Result<Option<Cert>, FmEnd>> Search<S> {
     /// The search that keeps at most `most_kept` nodes from one list of visits to the next, in
     /// place of 32,768. What it answers doesn't depend on that, only its time and its memory do.
     /// Takes no memory.
-    pub fn keeping(self, most_kept: usize) -> Search<S>
-        requires { IsSolver S.FnMut self }
-        ensures { IsSolver S.FnMut result }
+    pub fn keeping(self, most_kept: usize) -> Search<S, L>
+        requires solver { IsSolver S.FnMut self.solve }
+        requires lemma { IsLemmaFinder S.FnMut L.FnMut self.lemma }
+        ensures solver { IsSolver S.FnMut result.solve }
+        ensures lemma { IsLemmaFinder S.FnMut L.FnMut result.lemma }
     {
         Search {
             solve: self.solve,
+            lemma: self.lemma,
             most_kept,
         }
     }
@@ -452,12 +487,14 @@ impl<S: FnMut(&Constraint) -> Result<Option<Cert>, FmEnd>> Search<S> {
         depth: u32,
         budget: u32,
     ) -> Result<Log, SearchEnd>
-        requires solver { IsSolver S.FnMut self.old }
+        requires solver { IsSolver S.FnMut self.old.solve }
+        requires lemma { IsLemmaFinder S.FnMut L.FnMut self.old.lemma }
         requires no_domains { rules.now.domains ≡ [] }
         requires coverable { is_coverable rules.now ≡ true }
         requires fits { IsFitting rules.now goal.now }
         requires depth { depth ≤ 12 }
-        ensures solver { IsSolver S.FnMut self.new }
+        ensures solver { IsSolver S.FnMut self.new.solve }
+        ensures lemma { IsLemmaFinder S.FnMut L.FnMut self.new.lemma }
         ensures steps { IfOk result (λ log. searched rules.now goal.now depth budget ≡
             Closed (map move_of log.steps)) }
         ensures accepted { IfOk result (λ log. IsAccepted rules.now goal.now log) }
@@ -481,6 +518,7 @@ impl<S: FnMut(&Constraint) -> Result<Option<Cert>, FmEnd>> Search<S> {
             most_kept,
             &mut memo,
             &mut self.solve,
+            &mut self.lemma,
         )
     }
 }

@@ -15,6 +15,11 @@ pub fn word(alloc: Global, word: &[u8]) -> Option<Vec<u8>> {
     bytes_written(alloc, |out| push_word(out, word))
 }
 
+/// A count as text; none where memory ran out.
+pub fn count(alloc: Global, number: usize) -> Option<Vec<u8>> {
+    bytes_written(alloc, |out| push_count(out, number))
+}
+
 // A word and a number.
 fn push_numbered(word: &[u8], number: usize, out: &mut Vec<u8>) -> Result<(), NoMemory> {
     push_word(out, word)?;

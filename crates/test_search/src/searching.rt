@@ -1,11 +1,11 @@
-//! Searches by the refuter: what each comes to, how often it asks, and whether it comes to the same
-//! bytes whatever a cache holds and however many nodes are kept.
+//! Searches by the refuter: what each comes to, how often it asks the refuter and for lemmas, and
+//! whether it comes to the same bytes whatever a cache holds and however many nodes are kept.
 ghost use Rattle.std.specs.Prelude.{◌≡◌, ◌≤◌, [], true};
 ghost use Rattle.std.specs.Bool.{IsTrue};
 ghost use Rattle.rx_find_cover.specs.Coverable.{is_coverable};
 ghost use Rattle.rx_proofs.specs.Goals.{IsFitting};
 
-use crate::by_solver::{MOST_KEPT, Task, searched_by};
+use crate::by_solver::{MOST_KEPT, Task, lemmas_by, searched_by};
 use crate::caching::search_after;
 use crate::ends::word;
 use rx_find_cover::find_cover;
@@ -64,6 +64,18 @@ pub fn calls_of(alloc: Global, set: &RuleSet, task: &Task) -> Option<u64>
     };
     searched_by(alloc, set, task, MOST_KEPT, solve)?;
     Some(calls)
+}
+
+/// How often the search asks for the lemmas of a goal, where it keeps one node; none where memory
+/// ran out.
+pub fn lemmas_of(alloc: Global, set: &RuleSet, task: &Task) -> Option<usize>
+    requires no_domains { set.now.domains ≡ [] }
+    requires coverable { is_coverable set.now ≡ true }
+    requires fits { IsFitting set.now task.now.goal }
+    requires depth { task.now.depth ≤ 12 }
+{
+    let solve = |rows: &Constraint| refutes(alloc, rows);
+    lemmas_by(alloc, set, task, solve)
 }
 
 /// What the search comes to.

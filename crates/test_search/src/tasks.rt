@@ -1,9 +1,9 @@
 //! The calls of a line, each a search over a rule set.
 use crate::by_solver::Task;
 use crate::counting::counted;
-use crate::ends::word;
+use crate::ends::{count, word};
 use crate::searching::{
-    cached, calls_of, is_covered, is_fitting, is_without_domains, kept, searched,
+    cached, calls_of, is_covered, is_fitting, is_without_domains, kept, lemmas_of, searched,
 };
 use rx_term::RuleSet;
 use std::alloc::Global;
@@ -34,6 +34,7 @@ fn after(alloc: Global, set: &RuleSet, call: &str, task: &Task) -> Option<Vec<u8
         "search" => searched(alloc, set, task),
         "cached" => cached(alloc, set, task),
         "kept" => kept(alloc, set, task),
+        "finds" => count(alloc, lemmas_of(alloc, set, task)?),
         _ => None,
     }
 }
@@ -70,9 +71,9 @@ fn asked(alloc: Global, set: &RuleSet, goal: &str, effort: &str) -> Option<Vec<u
     }
 }
 
-/// What the call answers for the equation and the effort that are given: `search`, `cached` and
-/// `kept` to a depth and within a budget, `asks` to two depths and within a budget. `counts` is given
-/// a tree that counts its own calls, a depth, a budget and how many nodes are kept.
+/// What the call answers for the equation and the effort that are given: `search`, `cached`, `kept`
+/// and `finds` to a depth and within a budget, `asks` to two depths and within a budget. `counts`
+/// is given a tree that counts its own calls, a depth, a budget and how many nodes are kept.
 pub fn answer(alloc: Global, set: &RuleSet, call: &str, given: &str) -> Option<Vec<u8>> {
     if call == "counts" {
         return counted(alloc, given);

@@ -7,6 +7,7 @@ pub search-requires-clause-ready : goal.search-requires-clause-ready
 search-requires-clause-ready g c =
     let s = c.args.space.now in (
       c.requires.solver,
+      c.requires.lemma,
       c.in_ok-points.ensures,
       c.requires.listed,
       c.in_ok-settle_memo.ensures s.rules.now,
