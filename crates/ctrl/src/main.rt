@@ -1,9 +1,11 @@
 //! ctrl shows that two C functions compute the same for all integers.
 #![tactic(auto)]
 
-ghost use Rattle.std.specs.Prelude.{◌≡◌, ⊤, IfErr, MatchOption, None, map, string_bytes};
+ghost use Rattle.std.specs.Prelude.{◌≡◌, ⊤, IfErr, IfSome, MatchOption, None, map, string_bytes};
 ghost use Rattle.std.specs.Process.{exit_status};
 ghost use Rattle.rx_cli.specs.Answers.{AreEqual, IsRefutedBy};
+ghost use Rattle.rx_cli.specs.Posed.{HasProblem};
+ghost use Rattle.rx_command.specs.Commands.{command_of};
 ghost use Rattle.rx_report.specs.Ends.{code_of};
 ghost use Rattle.rx_report.specs.Texts.{IsReportableVerdict};
 
@@ -45,9 +47,12 @@ fn run_words(rt: &HostRuntime, words: &[String]) -> Ending
     run_told(rt.alloc(), words, &mut files, &mut out)
 }
 
-/// The problem that the words pose, where what was reported is about a log of two functions; none
-/// where their text can't be read any more or poses none, and where there is no memory.
-fn posed_by(rt: &HostRuntime, words: &[String], ending: &Ending) -> Option<Posed> {
+/// The problem that the words pose, where what was reported is about a log; none where their text
+/// can't be read any more or poses none, and where there is no memory.
+fn posed_by(rt: &HostRuntime, words: &[String], ending: &Ending) -> Option<Posed>
+    ensures { IfSome result (λ posed. HasProblem None (command_of (map string_bytes words.now))
+        (record { rules = posed.rules; goal = posed.goal })) }
+{
     let Some(Verdict::Check(_)) = ending.verdict else {
         return None;
     };

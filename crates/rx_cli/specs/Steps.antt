@@ -43,7 +43,8 @@ use Rattle.rx_logfile.specs.declared.file_end.FileEnd.TheVariants as file_end
 use Rattle.rx_cli.specs.declared.problems.Problem.{Problem}
 use Rattle.rx_cli.specs.Checks.{IsChecked, OnRead, OnText, longest_log}
 use Rattle.rx_cli.specs.Inductions.{IsReplayed}
-use Rattle.rx_cli.specs.Problems.{asked, longest_source}
+use Rattle.rx_cli.specs.Posed.{HeldPoses, LacksProblem, Posing}
+use Rattle.rx_cli.specs.Problems.{longest_source}
 use Rattle.rx_rulefile.specs.RuleLines.{lines}
 use Rattle.rx_rulefile.specs.RuleTexts.{IsRuleText, rule_lines}
 use Rattle.rx_report.specs.Texts.{IsReportableVerdict}
@@ -209,9 +210,14 @@ ChecksNamed held fault f source name verdict =
     ⊎ (fault × (verdict ≡ Said.ReadFault))
 
 -- what a text poses to two functions: a problem, or none
-abbrev pub PosesOf : Functions → List ℕ → Option Problem → Type 0
-PosesOf f source None = (verdict : Verdict) × asked f source (Ends verdict)
-PosesOf f source (Some problem) = asked f source (Goes problem)
+abbrev pub PosesOf : Posing → List ℕ → Option Problem → Type 0
+PosesOf posing source None = (verdict : Verdict) × posing source (Ends verdict)
+PosesOf posing source (Some problem) = posing source (Goes problem)
+
+-- the problem of the text under a name; none where it can't be read, or poses none
+abbrev pub PosesIn : Option Names → Type 0 → List ℕ → Posing → Option Problem → Type 0
+PosesIn held fault file posing None = LacksProblem held fault file posing
+PosesIn held fault file posing (Some problem) = HeldPoses held file posing problem
 
 -- what is said of a rule text and a log that is read under a name, or that a call on the files
 -- found a fault

@@ -34,7 +34,7 @@ use std::alloc::Global;
 
 /// The problem that a rule text poses, or why it poses none.
 #[tactic(auto, using(crate::proofs::Induced::posed_bare, crate::proofs::Induced::posed_fits))]
-fn pose(alloc: Global, source: &[u8]) -> Result<Next<Verdict, Problem>, NoMemory>
+pub(crate) fn pose(alloc: Global, source: &[u8]) -> Result<Next<Verdict, Problem>, NoMemory>
     ensures stage { IfOk result (posed source.now) }
     ensures fits { IfOk result (λ next. IfGoes next (λ q. IsFitting q.rules q.goal)) }
     ensures no_domains { IfOk result (λ next. IfGoes next (λ q. q.rules.domains ≡ [])) }

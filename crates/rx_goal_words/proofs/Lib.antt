@@ -1,2 +1,3 @@
--- Lemmas on goals in words.
+-- Lemmas on goals and pairs in words.
+pub mod RootLaws
 pub mod RowLaws

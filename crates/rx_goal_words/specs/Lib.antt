@@ -1,4 +1,5 @@
--- Goals, rules and conditions in words.
+-- Goals, rules, conditions and pairs in words.
 pub mod ConditionTexts
 pub mod GoalTexts
+pub mod PairTexts
 pub mod RuleTexts

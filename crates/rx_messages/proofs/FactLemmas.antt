@@ -8,9 +8,10 @@ use Rattle.rx_logstate.specs.declared.look_end.LookEnd.{LookEnd}
 use Rattle.rx_logstate.specs.declared.look_end.LookEnd.TheVariants as look_end
 use Rattle.rx_report.specs.declared.verdicts.Verdict.{Verdict}
 use Rattle.rx_term.specs.declared.rule.Equation.{Equation}
-use Rattle.rx_messages.specs.Explaining.{HasNoLog, HasOtherLog, IsUnread, IsUnreadAs}
+use Rattle.rx_messages.specs.Explaining.{HasNoLog, HasNoRules, HasOtherLog, IsUnread, IsUnreadAs}
 use Rattle.rx_messages.specs.Logs.{AreFronts, IsFound, IsLine, facts_view, is_before_steps, line_wanted, longest_log, step_wanted}
-use Rattle.rx_messages.specs.Steps.{FindsFacts, FindsFronts, FindsLine, FindsStep, MeansLook}
+use Rattle.rx_messages.specs.RuleTexts.{AreSymbols, is_about_rule}
+use Rattle.rx_messages.specs.Steps.{FindsFacts, FindsFronts, FindsLine, FindsStep, FindsSymbols, MeansLook}
 use Rattle.rx_messages.specs.declared.logs.Facts as code
 use Rattle.rx_messages.specs.declared.logs.Posed.{Posed}
 use Rattle.rx_messages.specs.declared.silences.Silence.{Silence}
@@ -109,9 +110,26 @@ no_fronts held mid before between now name posed verdict wanted silence.Unread s
     λ start later. unread_before held start between now longest_log name (omega arith)
     (subst (λ (h : Option Names). IsUnread h (Rose between now) longest_log name) same finds)
 no_fronts held mid before between now name posed verdict wanted silence.Changed same up is finds =
-    inr (subst (λ (b : Bool). HasNoLog held name b) is
-    (subst (λ (h : Option Names). HasNoLog h name wanted) same finds))
+    inr (inl (subst (λ (b : Bool). HasNoLog held name b) is
+    (subst (λ (h : Option Names). HasNoLog h name wanted) same finds)))
 no_fronts held mid before between now name posed verdict wanted silence.Cut same up is finds =
+    absurd finds
+
+-- it couldn't be found how many symbols there are, after other calls
+pub no_symbols : (held mid : Option Names) (before between now : ℕ) (name : Option (List ℕ))
+    (posed : Option Posed) (verdict : Option Verdict) (wanted : Bool) (end : Silence) →
+    mid ≡ held → before ≤ between → wanted ≡ is_about_rule verdict →
+    FindsSymbols mid (Rose between now) name wanted (Err end) →
+    FindsFacts held before now name posed verdict (Err end)
+no_symbols held mid before between now name posed verdict wanted silence.NoMemory same up is finds =
+    tt
+no_symbols held mid before between now name posed verdict wanted silence.Unread same up is finds =
+    λ start later. unread_before held start between now longest_log name (omega arith)
+    (subst (λ (h : Option Names). IsUnread h (Rose between now) longest_log name) same finds)
+no_symbols held mid before between now name posed verdict wanted silence.Changed same up is finds =
+    inr (inr (subst (λ (b : Bool). HasNoRules held name b) is
+    (subst (λ (h : Option Names). HasNoRules h name wanted) same finds)))
+no_symbols held mid before between now name posed verdict wanted silence.Cut same up is finds =
     absurd finds
 
 -- the line couldn't be read, after other calls
@@ -129,21 +147,25 @@ no_line held mid before between now name posed verdict wanted silence.Changed sa
 no_line held mid before between now name posed verdict wanted silence.Cut same up finds = absurd finds
 
 -- all was found
-pub all_found : (held mid last : Option Names) (before now : ℕ) (name : Option (List ℕ))
-    (posed : Option Posed) (verdict : Option Verdict) (wanted : Option ℕ) (early : Bool)
-    (facts : code.Facts) → mid ≡ held → last ≡ held → wanted ≡ step_wanted verdict →
-    early ≡ is_before_steps verdict → (facts_view facts).posed ≡ posed →
-    facts.number ≡ line_wanted verdict facts.found facts.fronts →
+pub all_found : (held mid next last : Option Names) (before now : ℕ) (name : Option (List ℕ))
+    (posed : Option Posed) (verdict : Option Verdict) (wanted : Option ℕ) (early ruled : Bool)
+    (facts : code.Facts) → mid ≡ held → next ≡ held → last ≡ held → wanted ≡ step_wanted verdict →
+    early ≡ is_before_steps verdict → ruled ≡ is_about_rule verdict →
+    (facts_view facts).posed ≡ posed →
+    facts.number ≡ line_wanted verdict facts.found facts.fronts facts.symbols →
     IsFound held name posed wanted facts.found → AreFronts mid name early facts.fronts →
-    IsLine last name facts.number facts.line.items →
+    AreSymbols next name ruled facts.symbols → IsLine last name facts.number facts.line.items →
     FindsFacts held before now name posed verdict (Ok facts)
-all_found held mid last before now name posed verdict wanted early facts same same_last is early_is
-    posed_is number at fronts line = record {
+all_found held mid next last before now name posed verdict wanted early ruled facts same same_next
+    same_last is early_is ruled_is posed_is number at fronts symbols line = record {
       same = posed_is;
       at = subst (λ (o : Option ℕ). IsFound held name posed o facts.found) is at;
       fronts =
           subst (λ (b : Bool). AreFronts held name b facts.fronts) early_is
           (subst (λ (h : Option Names). AreFronts h name early facts.fronts) same fronts);
+      symbols =
+          subst (λ (b : Bool). AreSymbols held name b facts.symbols) ruled_is
+          (subst (λ (h : Option Names). AreSymbols h name ruled facts.symbols) same_next symbols);
       number = number;
       line =
           subst (λ (h : Option Names). IsLine h name facts.number facts.line.items) same_last line;

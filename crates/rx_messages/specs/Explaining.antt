@@ -9,6 +9,7 @@ use Rattle.rx_messages.specs.Faults.{is_about_pre, place_of}
 use Rattle.rx_logstate.specs.AtSteps.{HasNoPlace, IsNoLog, Stand}
 use Rattle.rx_messages.specs.Logs.{AreFacts, Facts, is_before_steps, longest_log, step_wanted}
 use Rattle.rx_messages.specs.Messages.{message}
+use Rattle.rx_messages.specs.RuleTexts.{IsNoRuleText, is_about_rule, lines_name}
 use Rattle.rx_messages.specs.declared.logs.Posed.{Posed}
 use Rattle.rx_messages.specs.declared.silences.Silence.{Silence}
 use Rattle.rx_messages.specs.declared.silences.Silence.TheVariants.{NoMemory, Unread, Changed, Cut}
@@ -43,11 +44,11 @@ abbrev pub IsUnread : Option Names → Type 0 → ℕ → Option (List ℕ) → 
 IsUnread held read_fault most name =
     (file : List ℕ) × (name ≡ Some file) × IsUnreadAs held read_fault most file
 
--- what the message is about can't be read: the text, or the log
+-- what the message is about can't be read: the text, or the file of which a line is shown
 abbrev pub HasUnread : Option Names → Type 0 → Asked → Option Verdict → Type 0
 HasUnread held read_fault asked verdict =
     IsUnread held read_fault longest_source (name_read asked verdict)
-    ⊎ IsUnread held read_fault longest_log asked.log
+    ⊎ IsUnread held read_fault longest_log (lines_name asked verdict)
 
 -- what is held in the place of the log isn't one that comes to the step
 abbrev pub IsOtherAt : Option Names → List ℕ → Option Posed → Option ℕ → Type 0
@@ -69,10 +70,21 @@ abbrev pub HasNoLog : Option Names → Option (List ℕ) → Bool → Type 0
 HasNoLog held None wanted = ⊥
 HasNoLog held (Some name) wanted = IsNoLogAt held name wanted
 
--- what is held in the place of the log isn't one that the report can be about
-abbrev pub HasChangedLog : Option Names → Option (List ℕ) → Option Posed → Option Verdict → Type 0
-HasChangedLog held name posed verdict =
-    HasOtherLog held name posed (step_wanted verdict) ⊎ HasNoLog held name (is_before_steps verdict)
+-- where the report is about a rule, what is held in the place of the rule text is none
+abbrev pub IsNoRulesAt : Option Names → List ℕ → Bool → Type 0
+IsNoRulesAt held name false = ⊥
+IsNoRulesAt held name true = Stand held name IsNoRuleText
+
+abbrev pub HasNoRules : Option Names → Option (List ℕ) → Bool → Type 0
+HasNoRules held None wanted = ⊥
+HasNoRules held (Some name) wanted = IsNoRulesAt held name wanted
+
+-- what is held in the place of the log, or of the rule text, isn't one that the report can be about
+abbrev pub HasChangedFile : Option Names → Option (List ℕ) → Option Posed → Option Verdict → Type 0
+HasChangedFile held name posed verdict =
+    HasOtherLog held name posed (step_wanted verdict)
+    ⊎ (HasNoLog held name (is_before_steps verdict)
+    ⊎ HasNoRules held name (is_about_rule verdict))
 
 -- the message on what is read, which is P
 pub record HasMessage (held : Option Names) (asked : Asked) (posed : Option Posed) (status : Status)
@@ -82,7 +94,7 @@ pub record HasMessage (held : Option Names) (asked : Asked) (posed : Option Pose
   pub facts : Facts
   pub text : List ℕ
   pub read : IsRead held (name_read asked verdict) given
-  pub of_log : AreFacts held asked.log posed verdict facts
+  pub of_file : AreFacts held (lines_name asked verdict) posed verdict facts
   pub is : message asked status verdict given facts ≡ Some text
   pub so : P text
 
@@ -93,14 +105,14 @@ pub record HasOtherText (held : Option Names) (asked : Asked) (posed : Option Po
   pub given : List ℕ
   pub facts : Facts
   pub read : IsRead held (name_read asked verdict) given
-  pub of_log : AreFacts held asked.log posed verdict facts
+  pub of_file : AreFacts held (lines_name asked verdict) posed verdict facts
   pub none : message asked status verdict given facts ≡ None
 
--- the text or the log has no such place (any more)
+-- the text, the log or the rule text has no such place (any more)
 abbrev pub HasChanged : Option Names → Asked → Option Posed → Status → Option Verdict → Type 0
 HasChanged held asked posed status verdict =
     HasOtherText held asked posed status verdict
-    ⊎ HasChangedLog held asked.log posed verdict
+    ⊎ HasChangedFile held (lines_name asked verdict) posed verdict
 
 -- the whole message is written; or nothing, for a cause; or, where a call on the output found a
 -- fault, a part of the message

@@ -5,4 +5,5 @@ pub mod Faults
 pub mod Logs
 pub mod Messages
 pub mod Remarks
+pub mod RuleTexts
 pub mod Steps

@@ -1,4 +1,5 @@
--- What a message shows of a log: a line of it, and at a step the first goal of the state before.
+-- What a message shows of a log: a line of it, and at a step the first goal of the state before. And
+-- the line that it shows of a rule text.
 use Rattle.std.specs.Prelude.{◌≡◌, ◌+◌, ◌^◌, ℕ, Bool, true, false, List, [], ◌∷◌, ◌++◌, Option, Some, None, codes, decimal, is_none, length, option_map, if◌then◌else◌}
 use Rattle.rx_check.specs.declared.check_end.CheckEnd.{CheckEnd}
 use Rattle.rx_check.specs.declared.check_end.CheckEnd.TheVariants as End
@@ -7,6 +8,7 @@ use Rattle.rx_check.specs.declared.check_end.LimitAt.TheVariants as At
 use Rattle.rx_domain.specs.Setting.{bad_domain, with_domains}
 use Rattle.rx_goal_words.specs.ConditionTexts.{condition_text}
 use Rattle.rx_goal_words.specs.GoalTexts.{state_text}
+use Rattle.rx_goal_words.specs.PairTexts.{pair_text}
 use Rattle.rx_goal_words.specs.RuleTexts.{is_of_symbol, rules_text}
 use Rattle.rx_inference.specs.declared.step.Step.{Step}
 use Rattle.rx_io.specs.Outside.{Names}
@@ -22,12 +24,13 @@ use Rattle.rx_row.specs.declared.row.Row.{Row}
 use Rattle.rx_steps.specs.declared.step_end.StepEnd.{StepEnd}
 use Rattle.rx_steps.specs.declared.step_end.StepEnd.TheVariants as Unmet
 use Rattle.rx_term.specs.declared.rule_set.RuleParts.{RuleParts}
+use Rattle.rx_messages.specs.RuleTexts.{AreSymbols, is_about_rule, rule_line}
 use Rattle.rx_messages.specs.declared.logs.Facts as code
 use Rattle.rx_messages.specs.declared.logs.Posed.{Posed}
 
 -- ---- the step
 
--- the most bytes of a log
+-- the most bytes of a log, and of any file of which a line is shown
 abbrev pub longest_log : ℕ
 longest_log = 67108864
 
@@ -154,40 +157,44 @@ line_of_end (End.NotLower pair) found fronts = pair_line pair found
 line_of_end (End.Large place) found fronts = line_of_limit place found fronts
 line_of_end End.NoMemory found fronts = None
 
--- the line of the log that a report is about
-abbrev pub line_wanted : Option Verdict → Option AtStep → Option Fronts → Option ℕ
-line_wanted None found fronts = None
-line_wanted (Some (Said.Line number)) found fronts = Some number
-line_wanted (Some (Said.Check end)) found fronts = line_of_end end found fronts
-line_wanted (Some verdict) found fronts = None
+-- the line of the log, or of the rule text, that a report is about
+abbrev pub line_wanted : Option Verdict → Option AtStep → Option Fronts → Option ℕ → Option ℕ
+line_wanted None found fronts symbols = None
+line_wanted (Some (Said.Line number)) found fronts symbols = Some number
+line_wanted (Some (Said.Check end)) found fronts symbols = line_of_end end found fronts
+line_wanted (Some (Said.RuleLine number)) found fronts symbols = Some number
+line_wanted (Some (Said.NotMade rule)) found fronts symbols = rule_line rule symbols
+line_wanted (Some verdict) found fronts symbols = None
 
 abbrev pub IsLineIn : Option Names → List ℕ → Option ℕ → List ℕ → Type 0
 IsLineIn held name None line = line ≡ []
 IsLineIn held name (Some number) line = IsLineHeld held name longest_log 201 number line
 
--- the first bytes of that line of the log that is held under the name
+-- the first bytes of that line of the file that is held under the name
 abbrev pub IsLine : Option Names → Option (List ℕ) → Option ℕ → List ℕ → Type 0
 IsLine held None wanted line = line ≡ []
 IsLine held (Some name) wanted line = IsLineIn held name wanted line
 
 -- ---- all facts
 
--- what is known of the log for a message
+-- what is known of the log, or of the rule text, for a message
 pub record Facts : Type 0 where
   pub posed : Option Posed
   pub found : Option AtStep
   pub fronts : Option Fronts
+  pub symbols : Option ℕ
   pub number : Option ℕ
   pub line : List ℕ
 
--- that is so of the log that is held under the name, after a report
+-- that is so of the file that is held under the name, after a report
 pub record AreFacts (held : Option Names) (name : Option (List ℕ)) (posed : Option Posed)
     (verdict : Option Verdict) (facts : Facts)
     : Type 0 where
   pub same : facts.posed ≡ posed
   pub at : IsFound held name posed (step_wanted verdict) facts.found
   pub fronts : AreFronts held name (is_before_steps verdict) facts.fronts
-  pub number : facts.number ≡ line_wanted verdict facts.found facts.fronts
+  pub symbols : AreSymbols held name (is_about_rule verdict) facts.symbols
+  pub number : facts.number ≡ line_wanted verdict facts.found facts.fronts facts.symbols
   pub line : IsLine held name facts.number facts.line
 
 -- ---- what is shown
@@ -239,6 +246,19 @@ abbrev pub goal_text : RuleParts → Option AtStep → List ℕ
 goal_text parts None = []
 goal_text parts (Some at) = state_text parts at.state
 
+-- the pair with this number over the rules with the domains of the log, if these are lawful, and the
+-- hypotheses at the step, with the ranks of the log
+abbrev pub pair_inside : RuleParts → AtStep → ℕ → List ℕ
+pair_inside parts at number =
+    if are_lawful parts at.domains
+    then pair_text (rules_inside parts at.domains) at.state at.table number
+    else []
+
+-- the same where the end of the steps is known
+abbrev pub pair_shown : RuleParts → ℕ → Option AtStep → List ℕ
+pair_shown parts number None = []
+pair_shown parts number (Some at) = pair_inside parts at number
+
 -- the rules of a symbol
 abbrev pub symbol_text : RuleParts → ℕ → List ℕ
 symbol_text parts symbol =
@@ -249,7 +269,7 @@ abbrev pub limit_text : RuleParts → LimitAt → Option AtStep → List ℕ
 limit_text parts (At.Keep part) found = []
 limit_text parts (At.Cover symbol) found = symbol_text parts symbol
 limit_text parts (At.Step step) found = goal_text parts found
-limit_text parts (At.Pair pair) found = []
+limit_text parts (At.Pair pair) found = pair_shown parts pair found
 
 abbrev pub end_text : RuleParts → CheckEnd → Option AtStep → List ℕ
 end_text parts (End.BadDomain symbol) found = symbol_text parts symbol
@@ -258,7 +278,7 @@ end_text parts (End.Step step end) found = step_text parts end found
 end_text parts (End.Unfinished goals) found = goal_text parts found
 end_text parts (End.NotCovered symbol) found = symbol_text parts symbol
 end_text parts (End.BadRanks symbol) found = symbol_text parts symbol
-end_text parts (End.NotLower pair) found = []
+end_text parts (End.NotLower pair) found = pair_shown parts pair found
 end_text parts (End.Large place) found = limit_text parts place found
 end_text parts End.NoMemory found = []
 
@@ -281,6 +301,7 @@ facts_view facts = record {
   posed = option_map (λ posed. posed.now) facts.posed;
   found = facts.found;
   fronts = facts.fronts;
+  symbols = facts.symbols;
   number = facts.number;
   line = facts.line.items;
 }

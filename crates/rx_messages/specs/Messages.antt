@@ -17,7 +17,7 @@ use Rattle.rx_messages.specs.declared.faults.Place.{Place}
 use Rattle.rx_messages.specs.Asked.{Asked, call, call_of, condition_of, file_name, file_of}
 use Rattle.rx_messages.specs.Faults.{is_about_pre, place_of, spot_at}
 use Rattle.rx_messages.specs.Logs.{Facts, log_text, number_text}
-use Rattle.rx_messages.specs.Remarks.{is_about_log, mode_after, rule_line_of, tries_of, words_of}
+use Rattle.rx_messages.specs.Remarks.{is_about_log, mode_after, tries_of, words_of}
 
 -- ---- parts
 
@@ -77,11 +77,14 @@ abbrev pub thing_of : Asked → Verdict → List ℕ
 thing_of asked (Said.NoFunction name) = missing_name name asked.functions
 thing_of asked verdict = []
 
--- the name, with the line of the log or of the rule text
+-- the file that a report without a place is about
+abbrev pub text_name : Asked → Verdict → List ℕ
+text_name asked verdict =
+    if is_about_log verdict then file_name asked.log else subject_name asked verdict
+
+-- its name, with the line of the log or of the rule text
 abbrev pub remark_name : Asked → Verdict → Facts → List ℕ
-remark_name asked verdict facts =
-    if is_about_log verdict then file_name asked.log ++ number_text facts.number
-    else subject_name asked verdict ++ number_text (rule_line_of verdict)
+remark_name asked verdict facts = text_name asked verdict ++ number_text facts.number
 
 -- a line of advice: a call, and more
 abbrev pub advice_line : List ℕ → List ℕ → List ℕ

@@ -41,11 +41,6 @@ is_about_log (Said.Line number) = true
 is_about_log (Said.Check end) = true
 is_about_log verdict = false
 
--- the line of the rule text that it is about
-abbrev pub rule_line_of : Verdict → Option ℕ
-rule_line_of (Said.RuleLine number) = Some number
-rule_line_of verdict = None
-
 -- ---- all reports
 
 -- what a report says, behind the word that it is about

@@ -1,5 +1,5 @@
 -- What the functions inside promise to one another. Nothing that a caller reads depends on this.
-use Rattle.std.specs.Prelude.{◌≡◌, ◌≤◌, ℕ, Bool, List, Option, Some, None, Vec, option_map, Result, Ok, Err, ⊤}
+use Rattle.std.specs.Prelude.{◌≡◌, ◌≤◌, ℕ, Bool, true, false, List, Option, Some, None, Vec, option_map, Result, Ok, Err, ⊤}
 use Rattle.std.specs.Borrow.{Bor}
 use Rattle.std.specs.declared.alloc.Global.{Global}
 use Rattle.rx_io.specs.Outside.{Names, Rose}
@@ -10,8 +10,11 @@ use Rattle.rx_logstate.specs.declared.look_end.LookEnd.TheVariants as look_end
 use Rattle.rx_report.specs.declared.verdicts.Verdict.{Verdict}
 use Rattle.rx_io.specs.declared.reading.ReadEnd.{ReadEnd}
 use Rattle.rx_io.specs.declared.reading.ReadEnd.TheVariants as read_end
-use Rattle.rx_messages.specs.Explaining.{HasChangedLog, HasNoLog, HasOtherLog, IsRead, IsUnread, longest_source}
-use Rattle.rx_messages.specs.Logs.{AreFacts, AreFronts, IsFound, IsLine, facts_view, longest_log}
+use Rattle.rx_row.specs.declared.row.Row.{Row}
+use Rattle.rx_term.specs.declared.rule_set.RuleParts.{RuleParts}
+use Rattle.rx_messages.specs.Explaining.{HasChangedFile, HasNoLog, HasNoRules, HasOtherLog, IsRead, IsUnread, longest_source}
+use Rattle.rx_messages.specs.Logs.{AreFacts, AreFronts, IsFound, IsLine, are_lawful, facts_view, longest_log, rules_inside}
+use Rattle.rx_messages.specs.RuleTexts.{AreSymbols, HasSymbols, IsNoRuleText}
 use Rattle.rx_messages.specs.declared.logs.Facts as code
 use Rattle.rx_messages.specs.declared.logs.Posed.{Posed}
 use Rattle.rx_messages.specs.declared.silences.Silence.{Silence}
@@ -62,6 +65,25 @@ FindsFronts held read_fault name wanted (Err silence.Unread) =
 FindsFronts held read_fault name wanted (Err silence.Changed) = HasNoLog held name wanted
 FindsFronts held read_fault name wanted (Err silence.Cut) = ⊥
 
+-- how many symbols the rule text with these bytes has, or why that isn't known
+abbrev pub CountsSymbols : List ℕ → Result (Option ℕ) Silence → Type 0
+CountsSymbols bytes (Ok None) = ⊥
+CountsSymbols bytes (Ok (Some count)) = HasSymbols count bytes
+CountsSymbols bytes (Err silence.NoMemory) = ⊤
+CountsSymbols bytes (Err silence.Unread) = ⊥
+CountsSymbols bytes (Err silence.Changed) = IsNoRuleText bytes
+CountsSymbols bytes (Err silence.Cut) = ⊥
+
+-- the same of the rule text with this name
+abbrev pub FindsSymbols : Option Names → Type 0 → Option (List ℕ) → Bool →
+    Result (Option ℕ) Silence → Type 0
+FindsSymbols held read_fault name wanted (Ok symbols) = AreSymbols held name wanted symbols
+FindsSymbols held read_fault name wanted (Err silence.NoMemory) = ⊤
+FindsSymbols held read_fault name wanted (Err silence.Unread) =
+    IsUnread held read_fault longest_log name
+FindsSymbols held read_fault name wanted (Err silence.Changed) = HasNoRules held name wanted
+FindsSymbols held read_fault name wanted (Err silence.Cut) = ⊥
+
 -- the first bytes of the line, or why there are none
 abbrev pub FindsLine : Option Names → Type 0 → Option (List ℕ) → Option ℕ →
     Result (Vec ℕ Global) Silence → Type 0
@@ -81,8 +103,14 @@ FindsFacts held before now name posed verdict (Err silence.NoMemory) = ⊤
 FindsFacts held before now name posed verdict (Err silence.Unread) =
     (start : ℕ) → start ≤ before → IsUnread held (Rose start now) longest_log name
 FindsFacts held before now name posed verdict (Err silence.Changed) =
-    HasChangedLog held name posed verdict
+    HasChangedFile held name posed verdict
 FindsFacts held before now name posed verdict (Err silence.Cut) = ⊥
+
+-- the rules with these domains, if there are any; none where they aren't lawful
+abbrev pub IsInside : RuleParts → Option (List (List Row)) → Option RuleParts → Type 0
+IsInside parts domains None = are_lawful parts domains ≡ false
+IsInside parts domains (Some inside) =
+    (are_lawful parts domains ≡ true) × (inside ≡ rules_inside parts domains)
 
 -- what a fault of a look at a log means for a message
 abbrev pub MeansLook : LookEnd → Silence → Type 0

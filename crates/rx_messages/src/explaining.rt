@@ -15,6 +15,7 @@ use crate::asked::{Asked, asked_of, file_of};
 use crate::faults::{is_about_pre, place_of};
 use crate::logs::{Posed, facts_of};
 use crate::messages::message;
+use crate::rule_texts::lines_name;
 use crate::silences::{Silence, silence_of};
 use rx_command::command_of;
 use rx_io::{Files, Sink, put_all, read_all};
@@ -71,8 +72,9 @@ fn read_given<F: Files>(
 /// verdict. Where the verdict names a place in the text of the functions, the text is read again;
 /// the place is shown by its line and column, with the line. Where it is about the log, that is read
 /// again, in pieces, and its line is shown; `posed` is the problem that the log is about, and where
-/// a step fails or goals are left, the first goal of the state before is shown. Else the message
-/// says in words what was tried, and what to try. Nothing else is read, and the report isn't
+/// a step fails or goals are left, the first goal of the state before is shown, and where a call
+/// isn't lower, the pair. Where it is about a line of the rule text, that line is shown. Else the
+/// message says in words what was tried, and what to try. Nothing else is read, and the report isn't
 /// touched.
 pub fn explain<F: Files, O: Sink>(
     alloc: Global,
@@ -94,7 +96,7 @@ pub fn explain<F: Files, O: Sink>(
     let command = command_of(alloc, words)?;
     let asked = asked_of(&command);
     let given = read_given(alloc, files, name_read(&asked, &verdict))?;
-    let facts = facts_of(alloc, files, asked.log, posed, &verdict)?;
+    let facts = facts_of(alloc, files, lines_name(&asked, &verdict), posed, &verdict)?;
     let Some(text) = message(alloc, &asked, status, verdict, &given, &facts)? else {
         return Err(Silence::Changed);
     };

@@ -8,6 +8,7 @@ mod faults;
 mod logs;
 mod messages;
 mod remarks;
+mod rule_texts;
 mod silences;
 
 pub use explaining::explain;

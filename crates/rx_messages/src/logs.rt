@@ -1,19 +1,21 @@
-//! What a message shows of a log.
+//! What a message shows of a log, and which line of the log or of the rule text.
 ghost use Rattle.std.specs.Prelude.{◌≡◌, ◌≤◌, ◌+◌, ◌++◌, Some, true, IfOk, OnOk};
 ghost use Rattle.std.specs.Option.{option_copied};
 ghost use Rattle.rx_command.specs.Commands.{bytes_of};
 ghost use Rattle.rx_io.specs.Outside.{Rose};
 ghost use Rattle.rx_messages.specs.Logs as spec;
 ghost use Rattle.rx_messages.specs.Logs.{AreFacts, facts_view};
-ghost use Rattle.rx_messages.specs.Steps.{FindsFacts, FindsFronts, FindsLine, FindsStep};
+ghost use Rattle.rx_messages.specs.Steps.{FindsFacts, FindsFronts, FindsLine, FindsStep, IsInside};
 
+use crate::rule_texts::{is_about_rule, read_symbols, rule_line};
 use crate::silences::{Silence, silence_of, silence_of_look};
 use rx_check::{CheckEnd, LimitAt};
 use rx_domain::{DomainEnd, set_domains};
-use rx_goal_words::{push_condition, push_rules_of, push_state};
+use rx_goal_words::{push_condition, push_pair, push_rules_of, push_state};
 use rx_io::Files;
 use rx_logstate::{AtStep, Fronts, fronts_in_file, step_in_file};
 use rx_places::{NoMemory, line_in_file, push_number, push_numbered_line, push_word};
+use rx_plain::Items;
 use rx_report::Verdict;
 use rx_row::Constraint;
 use rx_steps::StepEnd;
@@ -29,7 +31,7 @@ pub struct Posed {
     pub goal: Equation,
 }
 
-/// What is known of the log for a message.
+/// What is known of the log, or of the rule text, for a message.
 #[derive(Drop)]
 pub(crate) struct Facts<'a> {
     /// The problem, where it is given.
@@ -38,14 +40,16 @@ pub(crate) struct Facts<'a> {
     pub found: Option<AtStep>,
     /// Where the lines before the steps begin, where the report is about one of them.
     pub fronts: Option<Fronts>,
+    /// How many symbols the rule text has, where the report is about one of its rules.
+    pub symbols: Option<usize>,
     /// The number of the line that it is about, counted from 1.
     pub number: Option<usize>,
     /// The first bytes of that line.
     pub line: Vec<u8>,
 }
 
-// The most bytes of a log.
-const LONGEST_LOG: u32 = 67_108_864;
+/// The most bytes of a log, and of any file of which a line is shown.
+pub(crate) const LONGEST_LOG: u32 = 67_108_864;
 
 // So many bytes of a line are read: one more than are shown.
 const LONGEST_LINE: usize = 201;
@@ -216,7 +220,7 @@ fn read_fronts<F: Files>(
 // ---- the line
 
 /// So many lines after this one; NoMemory where there is no such number.
-fn lines_after(line: usize, lines: usize) -> Result<usize, NoMemory>
+pub(crate) fn lines_after(line: usize, lines: usize) -> Result<usize, NoMemory>
     ensures { IfOk result (λ number. number ≡ line + lines) }
 {
     match line.checked_add(lines) {
@@ -324,23 +328,27 @@ fn line_of_end(
     }
 }
 
-/// The number of the line of the log that a report is about.
+/// The number of the line of the log, or of the rule text, that a report is about.
 fn line_wanted(
     verdict: &Option<Verdict>,
     found: &Option<AtStep>,
     fronts: Option<Fronts>,
+    symbols: Option<usize>,
 ) -> Result<Option<usize>, NoMemory>
-    ensures { IfOk result (λ number. number ≡ spec.line_wanted verdict.now found.now fronts) }
+    ensures { IfOk result (λ number.
+        number ≡ spec.line_wanted verdict.now found.now fronts symbols) }
 {
     match verdict {
         Some(Verdict::Line(number)) => Ok(Some(*number)),
         Some(Verdict::Check(end)) => line_of_end(*end, found, fronts),
+        Some(Verdict::RuleLine(number)) => Ok(Some(*number)),
+        Some(Verdict::NotMade(rule)) => rule_line(*rule, symbols),
         Some(_) => Ok(None),
         None => Ok(None),
     }
 }
 
-/// The first bytes of that line of the log, if there is one.
+/// The first bytes of that line, if there is one.
 fn read_line<F: Files>(
     alloc: Global,
     files: &mut F,
@@ -366,7 +374,8 @@ fn read_line<F: Files>(
 
 // ---- all facts
 
-/// What is known of the log with this name, if there is one, after what was reported.
+/// What is known of the file with this name, if there is one, after what was reported: of the log,
+/// or of the rule text.
 pub(crate) fn facts_of<'a, F: Files>(
     alloc: Global,
     files: &mut F,
@@ -381,12 +390,14 @@ pub(crate) fn facts_of<'a, F: Files>(
 {
     let found = read_step(alloc, files, name, posed, step_wanted(verdict))?;
     let fronts = read_fronts(alloc, files, name, is_before_steps(verdict))?;
-    let number = line_wanted(verdict, &found, fronts)?;
+    let symbols = read_symbols(alloc, files, name, is_about_rule(verdict))?;
+    let number = line_wanted(verdict, &found, fronts, symbols)?;
     let line = read_line(alloc, files, name, number)?;
     Ok(Facts {
         posed,
         found,
         fronts,
+        symbols,
         number,
         line,
     })
@@ -432,27 +443,25 @@ fn push_condition_of(
     }
 }
 
-/// The same over the rules with these domains, where these are lawful.
-fn push_condition_over(
+/// The rules with these domains, where these are lawful; the rules themselves where there are none.
+fn rules_inside(
     alloc: Global,
-    out: &mut Vec<u8>,
     rules: &RuleSet,
-    rows: &[Constraint],
-    at: &AtStep,
-    number: u32,
-) -> Result<(), NoMemory>
-    requires { at.now.domains ≡ Some rows.now }
-    ensures { OnOk result (out.new.items
-        ≡ out.old.items ++ spec.condition_inside rules.now at.now number) }
+    domains: &Option<Items<Constraint>>,
+) -> Result<Option<RuleSet>, NoMemory>
+    ensures { IfOk result (IsInside rules.now domains.now) }
 {
-    match set_domains(alloc, rules, rows) {
-        Ok(set) => push_condition_of(alloc, out, &set, at, number),
-        Err(DomainEnd::BadDomain(_)) => Ok(()),
+    let Some(rows) = domains else {
+        return Ok(Some(rules.try_clone(alloc)?));
+    };
+    match set_domains(alloc, rules, rows.as_slice()) {
+        Ok(set) => Ok(Some(set)),
+        Err(DomainEnd::BadDomain(_)) => Ok(None),
         Err(DomainEnd::NotKept(_) | DomainEnd::Large(_) | DomainEnd::NoMemory) => Err(NoMemory),
     }
 }
 
-/// The same over the rules with the domains of the log.
+/// The same over the rules with the domains of the log, where these are lawful.
 fn push_condition_inside(
     alloc: Global,
     out: &mut Vec<u8>,
@@ -463,9 +472,9 @@ fn push_condition_inside(
     ensures { OnOk result (out.new.items
         ≡ out.old.items ++ spec.condition_inside rules.now at.now number) }
 {
-    match &at.domains {
-        Some(rows) => push_condition_over(alloc, out, rules, rows.as_slice(), at, number),
-        None => push_condition_of(alloc, out, rules, at, number),
+    match rules_inside(alloc, rules, &at.domains)? {
+        Some(inside) => push_condition_of(alloc, out, &inside, at, number),
+        None => Ok(()),
     }
 }
 
@@ -519,6 +528,39 @@ fn push_goal_text(
     }
 }
 
+/// Adds the pair with this number over the rules with the domains of the log, where these are lawful.
+fn push_pair_inside(
+    alloc: Global,
+    out: &mut Vec<u8>,
+    rules: &RuleSet,
+    at: &AtStep,
+    number: usize,
+) -> Result<(), NoMemory>
+    ensures { OnOk result (out.new.items
+        ≡ out.old.items ++ spec.pair_inside rules.now at.now number) }
+{
+    match rules_inside(alloc, rules, &at.domains)? {
+        Some(inside) => push_pair(alloc, out, &inside, &at.state, &at.table, number),
+        None => Ok(()),
+    }
+}
+
+fn push_pair_shown(
+    alloc: Global,
+    out: &mut Vec<u8>,
+    rules: &RuleSet,
+    number: usize,
+    found: &Option<AtStep>,
+) -> Result<(), NoMemory>
+    ensures { OnOk result (out.new.items
+        ≡ out.old.items ++ spec.pair_shown rules.now number found.now) }
+{
+    match found {
+        Some(at) => push_pair_inside(alloc, out, rules, at, number),
+        None => Ok(()),
+    }
+}
+
 fn push_symbol_text(out: &mut Vec<u8>, rules: &RuleSet, symbol: usize) -> Result<(), NoMemory>
     ensures { OnOk result (out.new.items ≡ out.old.items ++ spec.symbol_text rules.now symbol) }
 {
@@ -529,6 +571,7 @@ fn push_symbol_text(out: &mut Vec<u8>, rules: &RuleSet, symbol: usize) -> Result
 }
 
 fn push_limit_text(
+    alloc: Global,
     out: &mut Vec<u8>,
     rules: &RuleSet,
     place: LimitAt,
@@ -541,7 +584,7 @@ fn push_limit_text(
         LimitAt::Keep(_) => Ok(()),
         LimitAt::Cover(symbol) => push_symbol_text(out, rules, symbol),
         LimitAt::Step(_) => push_goal_text(out, rules, found),
-        LimitAt::Pair(_) => Ok(()),
+        LimitAt::Pair(pair) => push_pair_shown(alloc, out, rules, pair, found),
     }
 }
 
@@ -562,8 +605,8 @@ fn push_end_text(
         CheckEnd::NotCovered { sym } | CheckEnd::BadRanks { sym } => {
             push_symbol_text(out, rules, sym)
         }
-        CheckEnd::NotLower { pair: _ } => Ok(()),
-        CheckEnd::Large { place } => push_limit_text(out, rules, place, found),
+        CheckEnd::NotLower { pair } => push_pair_shown(alloc, out, rules, pair, found),
+        CheckEnd::Large { place } => push_limit_text(alloc, out, rules, place, found),
         CheckEnd::NoMemory => Ok(()),
     }
 }
@@ -599,7 +642,7 @@ fn push_details(
     }
 }
 
-/// Adds the line of the log, and more of the check.
+/// Adds the line, and more of the check.
 pub(crate) fn push_log_text(
     alloc: Global,
     out: &mut Vec<u8>,

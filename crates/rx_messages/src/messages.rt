@@ -12,7 +12,7 @@ ghost use Rattle.rx_report.specs.Texts.{IsReportableVerdict};
 use crate::asked::{Asked, condition_of, file_of, push_call, push_call_of, push_file};
 use crate::faults::{Place, is_about_pre, place_of, spot_at};
 use crate::logs::{Facts, push_line_number, push_log_text};
-use crate::remarks::{is_about_log, mode_after, rule_line_of, tries_of, words_of};
+use crate::remarks::{is_about_log, mode_after, tries_of, words_of};
 use c_ast::Integers;
 use rx_command::Functions;
 use rx_places::{
@@ -174,7 +174,19 @@ fn push_thing(out: &mut Vec<u8>, asked: &Asked<'_>, verdict: &Verdict) -> Result
     }
 }
 
-// Adds the name of what a report is about.
+// Adds the name of the file that a report without a place is about.
+fn push_text_name(out: &mut Vec<u8>, asked: &Asked<'_>, verdict: &Verdict) -> Result<(), NoMemory>
+    ensures { OnOk result (out.new.items
+        ≡ out.old.items ++ spec.text_name (asked_view asked.now) verdict.now) }
+{
+    if is_about_log(verdict) {
+        push_file(out, asked.log)
+    } else {
+        push_subject_name(out, asked, verdict)
+    }
+}
+
+// Adds the name of what a report is about, with the line.
 fn push_remark_name(
     out: &mut Vec<u8>,
     asked: &Asked<'_>,
@@ -185,13 +197,8 @@ fn push_remark_name(
         ≡ out.old.items ++ spec.remark_name (asked_view asked.now) verdict.now
         (facts_view facts.now)) }
 {
-    if is_about_log(verdict) {
-        push_file(out, asked.log)?;
-        push_line_number(out, facts.number)
-    } else {
-        push_subject_name(out, asked, verdict)?;
-        push_line_number(out, rule_line_of(verdict))
-    }
+    push_text_name(out, asked, verdict)?;
+    push_line_number(out, facts.number)
 }
 
 // Adds the call that compares the functions in another mode; of 32-bit integers, which that mode

@@ -55,16 +55,6 @@ pub(crate) fn is_about_log(verdict: &Verdict) -> bool
     }
 }
 
-/// The line of the rule text that the report is about.
-pub(crate) fn rule_line_of(verdict: &Verdict) -> Option<usize>
-    ensures { result ≡ spec.rule_line_of verdict.now }
-{
-    match verdict {
-        Verdict::RuleLine(number) => Some(*number),
-        _ => None,
-    }
-}
-
 /// What a report says, behind the word that it is about.
 pub(crate) fn words_of(verdict: &Verdict) -> &'static [u8]
     ensures { result.now ≡ spec.words_of verdict.now }

@@ -17,7 +17,7 @@ pub use laws::{
 };
 pub use line_reading::read_line;
 pub use place::Place;
-pub use reading::read_rules;
+pub use reading::{read_parts, read_rules};
 pub use rule_end::RuleEnd;
 pub use rule_line::RuleLine;
 pub use writing::write_rules;

@@ -21,9 +21,10 @@ fn is_whole(place: Place, left: &[u8]) -> bool
     }
 }
 
-/// The parts of the rule set and the equation whose text this is; BadLine with the number of the
-/// first line with which no rule text begins.
-fn read_parts(alloc: Global, text: &[u8]) -> Result<(RuleParts, Equation), RuleEnd>
+/// The parts of the rule set, which may not be well made, and the equation whose text this is;
+/// BadLine with the number of the first line with which no rule text begins, counted from 1. Fails
+/// else only when out of memory.
+pub fn read_parts(alloc: Global, text: &[u8]) -> Result<(RuleParts, Equation), RuleEnd>
     ensures { ReadsParts text.now result }
 {
     let mut gathered = Gathered::new(alloc);

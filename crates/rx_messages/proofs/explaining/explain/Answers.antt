@@ -23,8 +23,9 @@ returns-in_err-facts-clause-explains g c =
     (Rose (g.O.Sink.faults c.args.err.now) (g.O.Sink.faults c.args.err.now))
     (asked_of (words_say.command_of (map string_bytes c.args.words.now)))
     (asked_view c.asked_of-asked.result) (option_copied c.args.posed) c.args.status c.args.verdict
-    (g.O.Sink.contents c.args.err.now) c.in_err-facts.field-0.0
-    c.in_ok-given.ensures.held c.in_ok-given.ensures.later is c.in_err-facts.ensures.finds)
+    (g.O.Sink.contents c.args.err.now) (words_say.bytes_of c.lines_name.result)
+    c.in_err-facts.field-0.0 c.in_ok-given.ensures.held c.in_ok-given.ensures.later is
+    c.lines_name.ensures c.in_err-facts.ensures.finds)
 
 pub returns-in_default-clause-explains : goal.returns-in_default-clause-explains
 returns-in_default-clause-explains g c =
@@ -35,8 +36,9 @@ returns-in_default-clause-explains g c =
     (asked_of (words_say.command_of (map string_bytes c.args.words.now)))
     (asked_view c.asked_of-asked.result) (option_copied c.args.posed) c.args.status c.args.verdict
     (g.O.Sink.contents c.args.err.now) (words_say.bytes_of c.name_read.result)
+    (words_say.bytes_of c.lines_name.result)
     c.in_ok-given.given.items c.deref.result.now (facts_view c.in_ok-facts.facts)
-    c.in_ok-text.field-0 c.in_ok-given.ensures.held is c.name_read.ensures
+    c.in_ok-text.field-0 c.in_ok-given.ensures.held is c.name_read.ensures c.lines_name.ensures
     c.in_ok-given.ensures.reads c.deref.ensures.value c.in_ok-facts.ensures.finds
     c.in_ok-text.ensures c.in_default.is
 
