@@ -57,7 +57,9 @@ fn posed_by(rt: &HostRuntime, words: &[String], ending: &Ending) -> Option<Posed
         return None;
     };
     let mut files = SystemFiles::new(rt);
-    let problem = problem_of_words(rt.alloc(), words, &mut files).ok()??;
+    let Ok(Some(problem)) = problem_of_words(rt.alloc(), words, &mut files) else {
+        return None;
+    };
     let Problem { rules, goal } = problem;
     Some(Posed { rules, goal })
 }
