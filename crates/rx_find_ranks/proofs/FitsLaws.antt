@@ -4,6 +4,7 @@ use Rattle.std.specs.List.{AllZip}
 use Rattle.std.specs.Option.{IfSome, option_map}
 use Rattle.std.specs.declared.alloc.Global.{Global}
 use Rattle.std.proofs.lemmas.List.FromFn.{length-map-range_with_len}
+use Rattle.rx_graph.specs.Components.{component_of}
 use Rattle.rx_graph.specs.Graph.{IsOver}
 use Rattle.rx_term.specs.declared.rule.Rule.{Rule}
 use Rattle.rx_term.specs.declared.rule_set.RuleParts.{RuleParts}
@@ -11,7 +12,7 @@ use Rattle.rx_pairs.specs.Graph.{edges_of}
 use Rattle.rx_pairs.specs.declared.pair.Pair.{Pair}
 use Rattle.rx_anchors.specs.Values.{polynomial_of}
 use Rattle.rx_rank.specs.Answers.{IsDecided, IsHeld, still_open, tried_as}
-use Rattle.rx_rank.specs.Components.{component_of, representatives_of}
+use Rattle.rx_rank.specs.Components.{representatives_of}
 use Rattle.rx_rank.specs.Ranking.{polynomials}
 use Rattle.rx_rank.specs.Tries.{all_made}
 use Rattle.rx_rank.specs.declared.attempt.Attempt.{Attempt}

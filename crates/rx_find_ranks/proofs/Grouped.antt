@@ -6,11 +6,12 @@ use Rattle.std.proofs.lemmas.Bool.{eq-eqb, false≢true}
 use Rattle.std.proofs.lemmas.List.Elements.{All-append, All-cons, All-contains, All-contains_itself, All-filter, All-head, All-nil, All-tail, Contains-append_left, Contains-append_right}
 use Rattle.std.proofs.lemmas.List.Folds.{list_any_at}
 use Rattle.std.proofs.lemmas.List.FromFn.{length-map-range_with_len}
+use Rattle.rx_graph.specs.Components.{component_of}
 use Rattle.rx_graph.specs.Graph.{IsOver}
 use Rattle.rx_plain.proofs.Kept.{first_one, kept, other_one}
 use Rattle.rx_pairs.specs.Graph.{edges_of}
 use Rattle.rx_anchors.specs.Members.{is_member}
-use Rattle.rx_rank.specs.Components.{component_of, representatives_of}
+use Rattle.rx_rank.specs.Components.{representatives_of}
 use Rattle.rx_rank.proofs.NameLaws.{component_below, name_at}
 use Rattle.rx_find_ranks.specs.Groups.{by_component, entries_in, ungrouped}
 use Rattle.rx_find_ranks.specs.Tables.{has_number, pairs_open}

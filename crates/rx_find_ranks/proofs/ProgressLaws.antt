@@ -6,7 +6,7 @@ use Rattle.std.specs.Prelude.{nat_lt, option_and_then}
 use Rattle.std.proofs.lemmas.List.Elements.{All-cons, All-head, All-nil, All-tail}
 use Rattle.std.proofs.lemmas.List.FromFn.{length-map-range_with_len}
 use Rattle.std.proofs.lemmas.Option.{none-some, same_Some, slice_get-map}
-use Rattle.rx_graph.specs.Components.{AreComponents}
+use Rattle.rx_graph.specs.Components.{AreComponents, component_of}
 use Rattle.rx_graph.specs.Graph.{IsOver}
 use Rattle.rx_graph.specs.Heights.{AreHeights}
 use Rattle.rx_poly.specs.Constants.{number}
@@ -20,7 +20,7 @@ use Rattle.rx_find_ranks.proofs.HeightColumns.{heights_split}
 use Rattle.rx_anchors.specs.Members.{arity_of}
 use Rattle.rx_find_ranks.specs.Closing.{close_all}
 use Rattle.rx_find_ranks.specs.Between.{is_leaving, is_staying}
-use Rattle.rx_rank.specs.Components.{component_of, inside, is_inside, representatives_of}
+use Rattle.rx_rank.specs.Components.{inside, is_inside, representatives_of}
 use Rattle.rx_find_ranks.specs.Rounds.{IsGrown, IsSplitBy}
 use Rattle.rx_find_ranks.specs.Columns.{Column, column_of, columns_in, height_column}
 use Rattle.rx_find_ranks.specs.Tables.{IsLawful, IsSplit, pairs_open}

@@ -46,8 +46,7 @@ module _ (kind : RankingKind) (parts : RuleParts) (hypotheses : List Rule) where
         ranking_from kind parts hypotheses 7 listed.pairs ≡ ranking kind parts hypotheses
     all_listed e = ranked_by listed true e ∙ ap (ranking_of kind parts hypotheses) is
 
-module _ (kind : RankingKind) (parts lent : RuleParts) (hypotheses : List Rule) (same : lent ≡
-    parts)
+module _ (kind : RankingKind) (parts : RuleParts) (hypotheses : List Rule)
     (made : IsWellMade parts) (roots : All HasRoot hypotheses)
     (fit : All (SidesFit parts) hypotheses) (listed : Listing)
     (is : listed ≡ listing parts (parts.rules ++ hypotheses)) (whole : listed.whole ≡ true) where
@@ -70,29 +69,28 @@ module _ (kind : RankingKind) (parts lent : RuleParts) (hypotheses : List Rule) 
   rules_have_roots =
       All-append HasRoot parts.rules hypotheses (made_roots parts parts.rules made) roots
 
-  over : IsOver (length lent.symbols) (edges_of listed.pairs)
+  over : IsOver (length parts.symbols) (edges_of listed.pairs)
   over =
-      subst (λ (ps : RuleParts). IsOver (length ps.symbols) (edges_of listed.pairs)) (sym same)
-      (subst (λ ps. IsOver (length parts.symbols) (edges_of ps)) (sym pairs_are)
+      subst (λ ps. IsOver (length parts.symbols) (edges_of ps)) (sym pairs_are)
       (all_within parts (map (bounded parts) rules) (listing parts rules).pairs
       (whole_listed parts rules rules_have_roots whole_is)
-      (All-map (SidesFit parts) (bounded parts) rules rules_fit)))
+      (All-map (SidesFit parts) (bounded parts) rules rules_fit))
 
   module _ (start : Progress) (begun : IsBegun listed.pairs start) where
     -- the open pairs at first are those of the definition
-    pub first_over : IsOver (length lent.symbols) (edges_of (pairs_open start.entries.items))
-    first_over = subst (λ ps. IsOver (length lent.symbols) (edges_of ps)) (sym begun.all) over
+    pub first_over : IsOver (length parts.symbols) (edges_of (pairs_open start.entries.items))
+    first_over = subst (λ ps. IsOver (length parts.symbols) (edges_of ps)) (sym begun.all) over
 
     pub first_ranking :
-        ranking_from kind lent hypotheses 7 (pairs_open start.entries.items) ≡ ranking kind parts
+        ranking_from kind parts hypotheses 7 (pairs_open start.entries.items) ≡ ranking kind parts
         hypotheses
     first_ranking =
-        (λ j. ranking_from kind (same j) hypotheses 7 (begun.all j))
+        ap (ranking_from kind parts hypotheses 7) begun.all
         ∙ all_listed kind parts hypotheses listed is whole
 
     -- the table of the columns at last lowers all pairs
-    module _ (after : Progress) (ranked : IsRanked lent.symbols start after) (symbols : ℕ)
-        (count : symbols ≡ length lent.symbols)
+    module _ (after : Progress) (ranked : IsRanked parts.symbols start after) (symbols : ℕ)
+        (count : symbols ≡ length parts.symbols)
         (columns : List FoundColumn) (columns_are : columns ≡ after.columns.items)
         (found : Ranking) where
       abbrev Lawful : Type 0
@@ -110,11 +108,11 @@ module _ (kind : RankingKind) (parts lent : RuleParts) (hypotheses : List Rule) 
           (ps : List Pair) → IsSplit ps (columns_in columns) [] after.closed.items →
           All IsDeepPair found.certs
 
-      all_lawful : All (IsLawful lent.symbols) (columns_in columns)
+      all_lawful : All (IsLawful parts.symbols) (columns_in columns)
       all_lawful =
-          subst (λ vs. All (IsLawful lent.symbols) (columns_in vs)) (sym columns_are)
-          (ranked.lawful (subst (λ vs. All (IsLawful lent.symbols) (columns_in vs))
-          (sym begun.columns) (All-nil (IsLawful lent.symbols))))
+          subst (λ vs. All (IsLawful parts.symbols) (columns_in vs)) (sym columns_are)
+          (ranked.lawful (subst (λ vs. All (IsLawful parts.symbols) (columns_in vs))
+          (sym begun.columns) (All-nil (IsLawful parts.symbols))))
 
       last_split : IsSplit listed.pairs (columns_in columns) [] after.closed.items
       last_split =
@@ -125,8 +123,7 @@ module _ (kind : RankingKind) (parts lent : RuleParts) (hypotheses : List Rule) 
       pub lowers_here : Lawful → Lower → Deep → LowersAll parts hypotheses found
       lowers_here lawful lower deep = record {
         lawful =
-            ap (λ (ps : RuleParts). bad_rank ps found.table) (sym same) ∙
-            lawful lent count all_lawful;
+            lawful parts count all_lawful;
         lower =
             ap (λ (l : Listing). descent_in found.table l.whole 0 l.pairs found.certs) (sym is)
             ∙ ap (λ w. descent_in found.table w 0 listed.pairs found.certs) whole

@@ -11,15 +11,26 @@ ghost use Rattle.rx_solve.specs.Answers.{IsSolver};
 use crate::lending::pairs_of;
 use crate::open_pair::OpenPair;
 use crate::overlays::overlay;
+use crate::problem::RankingProblem;
 use rx_anchors::without_polynomials;
 use rx_cert::Cert;
 use rx_fm::FmEnd;
 use rx_plain::NoMemory;
 use rx_poly::Poly;
-use rx_rank::{Attempt, Fit, PairMemo, RankingKind, fit_component};
+use rx_rank::{Attempt, Fit, PairMemo, fit_component};
 use rx_row::Constraint;
-use rx_term::{Rule, RuleParts};
 use std::alloc::Global;
+
+/// The entries of one component.
+#[derive(Drop)]
+struct Group<'a> {
+    /// By symbol the name of its component.
+    names: &'a [u32],
+    /// The name of this one.
+    name: u32,
+    /// Its entries.
+    entries: &'a [OpenPair],
+}
 
 /// Two fits as one.
 fn join_fits(first: Fit, second: Fit) -> Result<Fit, NoMemory>
@@ -46,40 +57,46 @@ fn join_fits(first: Fit, second: Fit) -> Result<Fit, NoMemory>
 }
 
 /// The fit of no component.
-fn no_fit(alloc: Global, parts: &RuleParts) -> Result<Fit, NoMemory>
-    ensures { IfOk result (λ fit. (names : List ℕ) → IsFitBelow parts.now.symbols names 0 [] fit) }
+fn no_fit(alloc: Global, problem: &RankingProblem) -> Result<Fit, NoMemory>
+    ensures { IfOk result (λ fit. (names : List ℕ) →
+        IsFitBelow problem.now.rules.now.symbols names 0 [] fit) }
 {
     Ok(Fit {
-        values: without_polynomials(alloc, parts.symbols.len())?,
+        values: without_polynomials(alloc, problem.symbols())?,
         holds: Vec::new(alloc),
         falls: Vec::new(alloc),
     })
 }
 
-/// The first fit choice of the component with that name, whose entries these are.
+/// The first fit choice of the component.
 fn fit_entries<S: FnMut(&Constraint) -> Result<Option<Cert>, FmEnd>>(
     alloc: Global,
-    kind: RankingKind,
-    parts: &RuleParts,
-    hypotheses: &[Rule],
-    names: &[u32],
-    name: u32,
-    entries: &[OpenPair],
+    problem: &RankingProblem,
+    group: &Group,
     memo: &mut PairMemo,
     solve: &mut S,
 ) -> Result<Attempt<Fit>, NoMemory>
     requires solver { IsSolver S.FnMut solve.old }
     ensures solver { IsSolver S.FnMut solve.new }
     ensures tried { IfOk result (λ t. tried_as
-        (λ fit. still_open (pairs_open entries.now) fit.falls.items) t ≡
-        component kind parts.now hypotheses.now names.now name (pairs_open entries.now)) }
+        (λ fit. still_open (pairs_open group.now.entries.now) fit.falls.items) t ≡
+        component problem.now.kind problem.now.rules.now problem.now.hypotheses.now
+        group.now.names.now group.now.name (pairs_open group.now.entries.now)) }
     ensures fit { IfOk result (λ t. IfSome t.made
-        (IsComponentFit kind parts.now hypotheses.now names.now name (pairs_open entries.now))) }
+        (IsComponentFit problem.now.kind problem.now.rules.now problem.now.hypotheses.now
+        group.now.names.now group.now.name (pairs_open group.now.entries.now))) }
 {
-    let lent = pairs_of(alloc, entries)?;
-    let pairs = lent.as_slice();
+    let lent = pairs_of(alloc, group.entries)?;
     fit_component(
-        alloc, kind, parts, hypotheses, names, name, pairs, memo, solve,
+        alloc,
+        problem.kind,
+        problem.rules.parts(),
+        problem.hypotheses,
+        group.names,
+        group.name,
+        lent.as_slice(),
+        memo,
+        solve,
     )
 }
 
@@ -97,34 +114,28 @@ fn join_next(before: Fit, tried: Attempt<Fit>) -> Result<Attempt<Fit>, NoMemory>
     }
 }
 
-/// The fit so far with the first fit choice of the component with that name, whose entries these
-/// are; without an entry nothing is tried.
+/// The fit so far with the first fit choice of the component; without an entry nothing is tried.
 fn fit_one_more<S: FnMut(&Constraint) -> Result<Option<Cert>, FmEnd>>(
     alloc: Global,
-    kind: RankingKind,
-    parts: &RuleParts,
-    hypotheses: &[Rule],
-    names: &[u32],
-    name: u32,
-    entries: &[OpenPair],
+    problem: &RankingProblem,
+    group: &Group,
     before: Fit,
     memo: &mut PairMemo,
     solve: &mut S,
 ) -> Result<Attempt<Fit>, NoMemory>
     requires solver { IsSolver S.FnMut solve.old }
     ensures solver { IsSolver S.FnMut solve.new }
-    ensures more { IfOk result (IsOneMore kind parts.now hypotheses.now names.now name
-        (pairs_open entries.now) before) }
+    ensures more { IfOk result (IsOneMore problem.now.kind problem.now.rules.now
+        problem.now.hypotheses.now group.now.names.now group.now.name
+        (pairs_open group.now.entries.now) before) }
 {
-    if entries.len() == 0 {
+    if group.entries.len() == 0 {
         return Ok(Attempt {
             made: Some(before),
             noted: false,
         });
     }
-    let tried = fit_entries(
-        alloc, kind, parts, hypotheses, names, name, entries, memo, solve,
-    )?;
+    let tried = fit_entries(alloc, problem, group, memo, solve)?;
     join_next(before, tried)
 }
 
@@ -132,9 +143,7 @@ fn fit_one_more<S: FnMut(&Constraint) -> Result<Option<Cert>, FmEnd>>(
 /// the first component that has none.
 pub(crate) fn fit_groups<S: FnMut(&Constraint) -> Result<Option<Cert>, FmEnd>>(
     alloc: Global,
-    kind: RankingKind,
-    parts: &RuleParts,
-    hypotheses: &[Rule],
+    problem: &RankingProblem,
     names: &[u32],
     groups: &[Vec<OpenPair>],
     memo: &mut PairMemo,
@@ -145,18 +154,20 @@ pub(crate) fn fit_groups<S: FnMut(&Constraint) -> Result<Option<Cert>, FmEnd>>(
     ensures solver { IsSolver S.FnMut solve.new }
     ensures tried { IfOk result (λ t. tried_as
         (λ fit. still_open (pairs_open (ungrouped (groups_in groups.now))) fit.falls.items) t ≡
-        all_made (tries_from kind parts.now hypotheses.now names.now 0 (groups_in groups.now))) }
-    ensures fit { IfOk result (λ t. IfSome t.made (IsFitBelow parts.now.symbols names.now
-        (length groups.now) (pairs_open (ungrouped (groups_in groups.now))))) }
+        all_made (tries_from problem.now.kind problem.now.rules.now problem.now.hypotheses.now
+        names.now 0 (groups_in groups.now))) }
+    ensures fit { IfOk result (λ t. IfSome t.made (IsFitBelow problem.now.rules.now.symbols
+        names.now (length groups.now) (pairs_open (ungrouped (groups_in groups.now))))) }
 {
-    let mut fit = no_fit(alloc, parts)?;
+    let mut fit = no_fit(alloc, problem)?;
     let mut noted = false;
     for (name, group) in groups.iter().enumerate() {
-        let name = name as u32;
-        let group = group.as_slice();
-        let tried = fit_one_more(
-            alloc, kind, parts, hypotheses, names, name, group, fit, memo, solve,
-        )?;
+        let group = Group {
+            names,
+            name: name as u32,
+            entries: group.as_slice(),
+        };
+        let tried = fit_one_more(alloc, problem, &group, fit, memo, solve)?;
         noted |= tried.noted;
         match tried.made {
             Some(more) => fit = more,

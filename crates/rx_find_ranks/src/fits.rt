@@ -14,13 +14,13 @@ use crate::components::fit_groups;
 use crate::groups::{all_entries, group_entries};
 use crate::lending::pairs_of;
 use crate::open_pair::OpenPair;
+use crate::problem::RankingProblem;
 use rx_cert::Cert;
 use rx_fm::FmEnd;
 use rx_plain::{Items, NoMemory};
 use rx_poly::Poly;
-use rx_rank::{Attempt, Fit, PairMemo, RankingKind, find_representatives};
+use rx_rank::{Attempt, Fit, PairMemo, find_representatives};
 use rx_row::Constraint;
-use rx_term::{Rule, RuleParts};
 use std::alloc::Global;
 
 /// The polynomials that components take, and what they say of the open pairs.
@@ -83,26 +83,26 @@ fn with_entries(
 /// that has none.
 pub(crate) fn fit_all<S: FnMut(&Constraint) -> Result<Option<Cert>, FmEnd>>(
     alloc: Global,
-    kind: RankingKind,
-    parts: &RuleParts,
-    hypotheses: &[Rule],
+    problem: &RankingProblem,
     entries: Vec<OpenPair>,
     memo: &mut PairMemo,
     solve: &mut S,
 ) -> Result<Attempt<Fits>, NoMemory>
     requires solver { IsSolver S.FnMut solve.old }
-    requires over { IsOver (length parts.now.symbols) (edges_of (pairs_open entries.items)) }
-    requires few { length parts.now.symbols ≤ 2 ^ 32 }
+    requires over { IsOver (length problem.now.rules.now.symbols)
+        (edges_of (pairs_open entries.items)) }
+    requires few { length problem.now.rules.now.symbols ≤ 2 ^ 32 }
     ensures solver { IsSolver S.FnMut solve.new }
     ensures tried { IfOk result (λ t. tried_as
         (λ fits. still_open (pairs_open fits.entries.items) fits.falls.items) t ≡
-        polynomials kind parts.now hypotheses.now (pairs_open entries.items)) }
-    ensures fits { IfOk result (λ t. IfSome t.made (AreFits parts.now.symbols entries.items)) }
+        polynomials problem.now.kind problem.now.rules.now problem.now.hypotheses.now
+        (pairs_open entries.items)) }
+    ensures fits { IfOk result (λ t. IfSome t.made
+        (AreFits problem.now.rules.now.symbols entries.items)) }
 {
-    let components = open_representatives(alloc, parts.symbols.len(), entries.as_slice())?;
+    let components = open_representatives(alloc, problem.symbols(), entries.as_slice())?;
     let names = components.as_slice();
     let groups = group_entries(alloc, names, entries)?;
-    let lent = groups.as_slice();
-    let tried = fit_groups(alloc, kind, parts, hypotheses, names, lent, memo, solve)?;
+    let tried = fit_groups(alloc, problem, names, groups.as_slice(), memo, solve)?;
     with_entries(alloc, groups, tried)
 }

@@ -19,6 +19,7 @@ mod levels;
 mod open_pair;
 mod overlays;
 mod polynomials;
+mod problem;
 mod progress;
 mod ranking;
 mod ranks;

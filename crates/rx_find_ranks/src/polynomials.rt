@@ -13,14 +13,14 @@ ghost use Rattle.rx_solve.specs.Answers.{IsSolver};
 use crate::closing::close_fallen;
 use crate::column::FoundColumn;
 use crate::fits::{Fits, fit_all};
+use crate::problem::RankingProblem;
 use crate::progress::Progress;
 use rx_cert::Cert;
 use rx_fm::FmEnd;
 use rx_pairs::PairCert;
 use rx_plain::NoMemory;
-use rx_rank::{Attempt, PairMemo, RankingKind};
+use rx_rank::{Attempt, PairMemo};
 use rx_row::Constraint;
-use rx_term::{Rule, RuleParts};
 use std::alloc::Global;
 
 /// The column of the fits after the columns before; the pairs at which it falls are closed.
@@ -61,29 +61,29 @@ fn add_column(
 /// and the pairs that fall are closed.
 pub(crate) fn add_polynomials<S: FnMut(&Constraint) -> Result<Option<Cert>, FmEnd>>(
     alloc: Global,
-    kind: RankingKind,
-    parts: &RuleParts,
-    hypotheses: &[Rule],
+    problem: &RankingProblem,
     progress: Progress,
     memo: &mut PairMemo,
     solve: &mut S,
 ) -> Result<Attempt<Progress>, NoMemory>
     requires solver { IsSolver S.FnMut solve.old }
-    requires over { IsOver (length parts.now.symbols)
+    requires over { IsOver (length problem.now.rules.now.symbols)
         (edges_of (pairs_open progress.entries.items)) }
-    requires few { length parts.now.symbols ≤ 2 ^ 32 }
+    requires few { length problem.now.rules.now.symbols ≤ 2 ^ 32 }
     requires width { length progress.columns.items ≤ 14 }
     ensures solver { IsSolver S.FnMut solve.new }
     ensures tried { IfOk result (λ t. tried_as (λ after. pairs_open after.entries.items) t ≡
-        polynomials kind parts.now hypotheses.now (pairs_open progress.entries.items)) }
-    ensures grown { IfOk result (λ t. IfSome t.made (IsGrown parts.now.symbols progress)) }
+        polynomials problem.now.kind problem.now.rules.now problem.now.hypotheses.now
+        (pairs_open progress.entries.items)) }
+    ensures grown { IfOk result (λ t. IfSome t.made
+        (IsGrown problem.now.rules.now.symbols progress)) }
 {
     let Progress {
         columns,
         entries,
         closed,
     } = progress;
-    let tried = fit_all(alloc, kind, parts, hypotheses, entries, memo, solve)?;
+    let tried = fit_all(alloc, problem, entries, memo, solve)?;
     let noted = tried.noted;
     let Some(fits) = tried.made else {
         return Ok(Attempt { made: None, noted });

@@ -6,6 +6,7 @@ ghost use Rattle.rx_find_ranks.specs.Found.{HasColumns, LowersAll, RanksAnswer};
 ghost use Rattle.rx_rank.specs.Ranking.{ranked, ranking};
 ghost use Rattle.rx_solve.specs.Answers.{IsSolver};
 
+use crate::problem::RankingProblem;
 use crate::progress::{Progress, begin};
 use crate::rounds::rank_from;
 use crate::table::ranking_of;
@@ -31,26 +32,25 @@ pub struct Ranking {
 /// where these pass the limits, which is noted.
 fn rank_all<S: FnMut(&Constraint) -> Result<Option<Cert>, FmEnd>>(
     alloc: Global,
-    kind: RankingKind,
-    rules: &RuleSet,
-    hypotheses: &[Rule],
+    problem: &RankingProblem,
     memo: &mut PairMemo,
     solve: &mut S,
 ) -> Result<Attempt<Ranking>, NoMemory>
     requires solver { IsSolver S.FnMut solve.old }
-    requires roots { All HasRoot hypotheses.now }
-    requires fits { All (SidesFit rules.now) hypotheses.now }
+    requires roots { All HasRoot problem.now.hypotheses.now }
+    requires fits { All (SidesFit problem.now.rules.now) problem.now.hypotheses.now }
     ensures solver { IsSolver S.FnMut solve.new }
-    ensures tried { IfOk result (λ t. tried_only t ≡ ranking kind rules.now hypotheses.now) }
-    ensures lowers { IfOk result (λ t. IfSome t.made (LowersAll rules.now hypotheses.now)) }
+    ensures tried { IfOk result (λ t. tried_only t ≡
+        ranking problem.now.kind problem.now.rules.now problem.now.hypotheses.now) }
+    ensures lowers { IfOk result (λ t. IfSome t.made
+        (LowersAll problem.now.rules.now problem.now.hypotheses.now)) }
     ensures columns { IfOk result (λ t. IfSome t.made (λ found. HasColumns found.table)) }
 {
-    let parts = rules.parts();
-    let symbols = parts.symbols.len();
+    let symbols = problem.rules.parts().symbols.len();
     if symbols > u32::MAX as usize {
         return Err(NoMemory);
     }
-    let listed = listed_pairs(alloc, rules, hypotheses)?;
+    let listed = listed_pairs(alloc, problem.rules, problem.hypotheses)?;
     if !listed.whole {
         return Ok(Attempt {
             made: None,
@@ -59,7 +59,7 @@ fn rank_all<S: FnMut(&Constraint) -> Result<Option<Cert>, FmEnd>>(
     }
     let pairs = listed.pairs.into_vec();
     let start = begin(alloc, pairs)?;
-    let tried = rank_from(alloc, kind, parts, hypotheses, 7, start, memo, solve)?;
+    let tried = rank_from(alloc, problem, 7, start, memo, solve)?;
     let noted = tried.noted;
     match tried.made {
         Some(done) => {
@@ -99,7 +99,12 @@ pub fn find_ranks_with<S: FnMut(&Constraint) -> Result<Option<Cert>, FmEnd>>(
     ensures lowers { IfOk result (λ a. IfSome a (LowersAll rules.now hypotheses.now)) }
     ensures columns { IfOk result (λ a. IfSome a (λ found. HasColumns found.table)) }
 {
-    match rank_all(alloc, kind, rules, hypotheses, memo, solve) {
+    let problem = RankingProblem {
+        kind,
+        rules,
+        hypotheses,
+    };
+    match rank_all(alloc, &problem, memo, solve) {
         Ok(tried) => {
             let noted = tried.noted;
             match tried.made {

@@ -12,13 +12,13 @@ ghost use Rattle.rx_solve.specs.Answers.{IsSolver};
 ghost use Rattle.rx_term.specs.declared.rule_set.SymInfo.{SymInfo};
 
 use crate::polynomials::add_polynomials;
+use crate::problem::RankingProblem;
 use crate::progress::{Progress, add_heights};
 use rx_cert::Cert;
 use rx_fm::FmEnd;
 use rx_plain::NoMemory;
-use rx_rank::{Attempt, PairMemo, RankingKind, noted_before};
+use rx_rank::{Attempt, PairMemo, noted_before};
 use rx_row::Constraint;
-use rx_term::{Rule, RuleParts};
 use std::alloc::Global;
 
 /// One column more, of heights, as a round begins; none where no round is left and no pair is open.
@@ -58,26 +58,26 @@ fn found(progress: Progress) -> Attempt<Progress>
 /// and so on; where no round is left and pairs are open, a last column of heights.
 pub(crate) fn rank_from<S: FnMut(&Constraint) -> Result<Option<Cert>, FmEnd>>(
     alloc: Global,
-    kind: RankingKind,
-    parts: &RuleParts,
-    hypotheses: &[Rule],
+    problem: &RankingProblem,
     left: u32,
     progress: Progress,
     memo: &mut PairMemo,
     solve: &mut S,
 ) -> Result<Attempt<Progress>, NoMemory>
     requires solver { IsSolver S.FnMut solve.old }
-    requires over { IsOver (length parts.now.symbols)
+    requires over { IsOver (length problem.now.rules.now.symbols)
         (edges_of (pairs_open progress.entries.items)) }
-    requires few { length parts.now.symbols ≤ 2 ^ 32 }
+    requires few { length problem.now.rules.now.symbols ≤ 2 ^ 32 }
     requires width { length progress.columns.items + 2 * left ≤ 14 }
     ensures solver { IsSolver S.FnMut solve.new }
     ensures tried { IfOk result (λ t. tried_only t ≡
-        ranking_from kind parts.now hypotheses.now left (pairs_open progress.entries.items)) }
-    ensures made { IfOk result (λ t. IfSome t.made (IsRanked parts.now.symbols progress)) }
+        ranking_from problem.now.kind problem.now.rules.now problem.now.hypotheses.now left
+        (pairs_open progress.entries.items)) }
+    ensures made { IfOk result (λ t. IfSome t.made
+        (IsRanked problem.now.rules.now.symbols progress)) }
     ensures more { IfOk result (λ t. IfSome t.made (IsLonger left progress)) }
 {
-    let grown = add_needed_heights(alloc, parts.symbols.len(), left, progress)?;
+    let grown = add_needed_heights(alloc, problem.symbols(), left, progress)?;
     if grown.is_done() {
         return Ok(found(grown));
     }
@@ -87,11 +87,11 @@ pub(crate) fn rank_from<S: FnMut(&Constraint) -> Result<Option<Cert>, FmEnd>>(
             noted: false,
         });
     }
-    let tried = add_polynomials(alloc, kind, parts, hypotheses, grown, memo, solve)?;
+    let tried = add_polynomials(alloc, problem, grown, memo, solve)?;
     let noted = tried.noted;
     let Some(next) = tried.made else {
         return Ok(Attempt { made: None, noted });
     };
-    let rest = rank_from(alloc, kind, parts, hypotheses, left - 1, next, memo, solve)?;
+    let rest = rank_from(alloc, problem, left - 1, next, memo, solve)?;
     Ok(noted_before(noted, rest))
 }

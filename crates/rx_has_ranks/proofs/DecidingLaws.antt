@@ -139,13 +139,12 @@ module _ (kind : RankingKind) (parts : RuleParts) (hypotheses : List Rule) where
         not_whole (record { pairs = first ++ more.pairs; whole = more.whole }) e
         ∙ ap (ranking_of kind parts hypotheses) all_is
 
-    module _ (lent : RuleParts) (same : lent ≡ parts) (e : more.whole ≡ true) where
+    module _ (e : more.whole ≡ true) where
       -- they are
-      pub all_ranked : ranking_from kind lent hypotheses 7 (first ++ more.pairs) ≡
+      pub all_ranked : ranking_from kind parts hypotheses 7 (first ++ more.pairs) ≡
           ranking kind parts hypotheses
       all_ranked =
-          ap (λ (ps : RuleParts). ranking_from kind ps hypotheses 7 (first ++ more.pairs)) same
-          ∙ is_whole (record { pairs = first ++ more.pairs; whole = more.whole }) e
+          is_whole (record { pairs = first ++ more.pairs; whole = more.whole }) e
           ∙ ap (ranking_of kind parts hypotheses) all_is
 
       abbrev all : List Rule
@@ -153,11 +152,9 @@ module _ (kind : RankingKind) (parts : RuleParts) (hypotheses : List Rule) where
 
       -- and they are of the symbols
       pub all_over : IsWellMade parts → All HasRoot hypotheses → All (SidesFit parts) hypotheses →
-          IsOver (length lent.symbols) (edges_of (first ++ more.pairs))
+          IsOver (length parts.symbols) (edges_of (first ++ more.pairs))
       all_over made roots fit =
-          subst (λ (ps : RuleParts). IsOver (length ps.symbols) (edges_of (first ++ more.pairs)))
-          (sym same)
-          (subst (λ (ps : List Pair). IsOver (length parts.symbols) (edges_of ps))
+          subst (λ (ps : List Pair). IsOver (length parts.symbols) (edges_of ps))
           (sym (ap (λ (l : Listing). l.pairs) all_is))
           (all_within parts (map (bounded parts) all) (listing parts all).pairs
           (whole_listed parts all (All-append HasRoot parts.rules hypotheses
@@ -165,4 +162,4 @@ module _ (kind : RankingKind) (parts : RuleParts) (hypotheses : List Rule) where
           (sym (ap (λ (l : Listing). l.whole) all_is) ∙ e))
           (All-map (SidesFit parts) (bounded parts) all
           (All-append (SidesFit parts) parts.rules hypotheses (made_fit parts parts.rules made)
-          fit))))
+          fit)))

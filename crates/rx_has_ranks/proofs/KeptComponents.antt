@@ -1,10 +1,10 @@
 -- What is kept of graphs of pairs stays right.
-use Rattle.std.proofs.Common.{◌≡◌, ◌∙◌, ap, refl, ℕ, suc, ◌==◌, Bool, true, false, ◌&&◌, List, [], ◌∷◌, length, map}
+use Rattle.std.proofs.Common.{◌≡◌, ◌∙◌, ap, refl, ℕ, suc, ◌==◌, Bool, true, false, ◌&&◌, List, [], ◌∷◌, length}
 use Rattle.std.proofs.lemmas.Bool.{and_parts, eqb-true}
+use Rattle.rx_graph.specs.Components.{components_of}
 use Rattle.rx_pairs.specs.Graph.{edges_of}
 use Rattle.rx_pairs.specs.declared.pair.Pair.{Pair}
-use Rattle.rx_anchors.specs.Members.{symbols_of}
-use Rattle.rx_rank.specs.Components.{component_of, representatives_of}
+use Rattle.rx_rank.specs.Components.{representatives_of}
 use Rattle.rx_has_ranks.specs.KnownComponents.{AreRepresentatives, same_edges}
 use Rattle.rx_has_ranks.specs.declared.components_memo.KnownComponents.{KnownComponents}
 
@@ -39,5 +39,5 @@ pub names_known : (known : KnownComponents) (pairs : List Pair) → AreRepresent
     same_edges known.edges.items pairs ≡ true → known.representatives.items ≡ representatives_of
     known.symbols pairs
 names_known known pairs right same =
-    right ∙ ap (λ es. map (component_of known.symbols es) (symbols_of known.symbols))
+    right ∙ ap (components_of known.symbols)
     (edges_tell known.edges.items pairs same)

@@ -1,15 +1,13 @@
 -- What is kept of graphs of pairs: the representatives of their components, which are right.
-use Rattle.std.specs.Prelude.{◌≡◌, ◌==◌, ◌&&◌, ℕ, Bool, true, false, List, [], ◌∷◌, map}
+use Rattle.std.specs.Prelude.{◌≡◌, ◌==◌, ◌&&◌, ℕ, Bool, true, false, List, [], ◌∷◌}
+use Rattle.rx_graph.specs.Components.{components_of}
 use Rattle.rx_pairs.specs.declared.pair.Pair.{Pair}
-use Rattle.rx_anchors.specs.Members.{symbols_of}
-use Rattle.rx_rank.specs.Components.{component_of}
 use Rattle.rx_has_ranks.specs.declared.components_memo.KnownComponents.{KnownComponents}
 
 -- the representatives that are kept are those of the components
 abbrev pub AreRepresentatives : KnownComponents → Type 0
 AreRepresentatives known =
-    known.representatives.items ≡ map (component_of known.symbols known.edges.items)
-    (symbols_of known.symbols)
+    known.representatives.items ≡ components_of known.symbols known.edges.items
 
 -- the edges are those of the pairs, in order
 abbrev pub same_edges : List (ℕ × ℕ) → List Pair → Bool

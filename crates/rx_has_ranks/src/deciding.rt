@@ -11,6 +11,7 @@ ghost use Rattle.rx_solve.specs.Answers.{IsSolver};
 ghost use Rattle.rx_solve.specs.Attempts.{beyond};
 
 use crate::hypotheses::hypothesis_pairs;
+use crate::problem::RankingProblem;
 use crate::rank_memo::RankMemo;
 use crate::staying::{left_after, open_pairs};
 use rx_cert::Cert;
@@ -19,7 +20,7 @@ use rx_pairs::{Listing, Pair};
 use rx_plain::NoMemory;
 use rx_rank::{Attempt, RankingKind, noted_before};
 use rx_row::Constraint;
-use rx_term::{Rule, RuleParts, RuleSet};
+use rx_term::{Rule, RuleSet};
 use std::alloc::Global;
 
 /// Adds the pairs, borrowed.
@@ -35,22 +36,21 @@ fn push_borrowed<'a>(refs: &mut Vec<&'a Pair>, pairs: &'a [Pair]) -> Result<(), 
 /// Whether there are ranks for the open pairs, with n rounds left.
 fn decide_from<S: FnMut(&Constraint) -> Result<Option<Cert>, FmEnd>>(
     alloc: Global,
-    kind: RankingKind,
-    parts: &RuleParts,
-    hypotheses: &[Rule],
+    problem: &RankingProblem,
     left: u32,
     pairs: &[&Pair],
     memo: &mut RankMemo,
     solve: &mut S,
 ) -> Result<Attempt<()>, NoMemory>
     requires solver { IsSolver S.FnMut solve.old }
-    requires over { IsOver (length parts.now.symbols) (edges_of (pairs_at pairs.now)) }
-    requires few { length parts.now.symbols ≤ 2 ^ 32 }
+    requires over { IsOver (length problem.now.rules.now.symbols) (edges_of (pairs_at pairs.now)) }
+    requires few { length problem.now.rules.now.symbols ≤ 2 ^ 32 }
     ensures solver { IsSolver S.FnMut solve.new }
     ensures tried { IfOk result (λ t. tried_only t ≡
-        ranking_from kind parts.now hypotheses.now left (pairs_at pairs.now)) }
+        ranking_from problem.now.kind problem.now.rules.now problem.now.hypotheses.now left
+        (pairs_at pairs.now)) }
 {
-    let opened = open_pairs(alloc, parts, pairs, &mut memo.components)?;
+    let opened = open_pairs(alloc, problem, pairs, &mut memo.components)?;
     if opened.pairs.len() == 0 {
         return Ok(Attempt {
             made: Some(()),
@@ -63,20 +63,12 @@ fn decide_from<S: FnMut(&Constraint) -> Result<Option<Cert>, FmEnd>>(
             noted: false,
         });
     }
-    let tried = left_after(
-        alloc,
-        kind,
-        parts,
-        hypotheses,
-        &opened,
-        &mut memo.pairs,
-        solve,
-    )?;
+    let tried = left_after(alloc, problem, &opened, &mut memo.pairs, solve)?;
     let noted = tried.noted;
     match tried.made {
         Some(next) => {
             let next = next.as_slice();
-            let rest = decide_from(alloc, kind, parts, hypotheses, left - 1, next, memo, solve)?;
+            let rest = decide_from(alloc, problem, left - 1, next, memo, solve)?;
             Ok(noted_before(noted, rest))
         }
         None => Ok(Attempt { made: None, noted }),
@@ -96,62 +88,52 @@ fn not_listed() -> Attempt<()>
 /// What comes of the ranking of all these pairs.
 fn decide_listed<S: FnMut(&Constraint) -> Result<Option<Cert>, FmEnd>>(
     alloc: Global,
-    kind: RankingKind,
-    parts: &RuleParts,
-    hypotheses: &[Rule],
+    problem: &RankingProblem,
     first: &[Pair],
     others: &[Pair],
     memo: &mut RankMemo,
     solve: &mut S,
 ) -> Result<Attempt<()>, NoMemory>
     requires solver { IsSolver S.FnMut solve.old }
-    requires over { IsOver (length parts.now.symbols) (edges_of (first.now ++ others.now)) }
-    requires few { length parts.now.symbols ≤ 2 ^ 32 }
+    requires over { IsOver (length problem.now.rules.now.symbols)
+        (edges_of (first.now ++ others.now)) }
+    requires few { length problem.now.rules.now.symbols ≤ 2 ^ 32 }
     ensures solver { IsSolver S.FnMut solve.new }
     ensures tried { IfOk result (λ t. tried_only t ≡
-        ranking_from kind parts.now hypotheses.now 7 (first.now ++ others.now)) }
+        ranking_from problem.now.kind problem.now.rules.now problem.now.hypotheses.now 7
+        (first.now ++ others.now)) }
 {
     let mut refs = Vec::with_capacity(alloc, first.len())?;
     push_borrowed(&mut refs, first)?;
     push_borrowed(&mut refs, others)?;
-    decide_from(
-        alloc,
-        kind,
-        parts,
-        hypotheses,
-        7,
-        refs.as_slice(),
-        memo,
-        solve,
-    )
+    decide_from(alloc, problem, 7, refs.as_slice(), memo, solve)
 }
 
 /// What comes of the ranking of the pairs of the rules, which are all listed, and of those of the
 /// hypotheses.
 fn decide_after<S: FnMut(&Constraint) -> Result<Option<Cert>, FmEnd>>(
     alloc: Global,
-    kind: RankingKind,
-    rules: &RuleSet,
+    problem: &RankingProblem,
     first: &[Pair],
-    hypotheses: &[Rule],
     memo: &mut RankMemo,
     solve: &mut S,
 ) -> Result<Attempt<()>, NoMemory>
     requires solver { IsSolver S.FnMut solve.old }
-    requires listed { record { pairs = first.now; whole = true } ≡ listing rules.now rules.now.rules }
-    requires roots { All HasRoot hypotheses.now }
-    requires fits { All (SidesFit rules.now) hypotheses.now }
+    requires listed { record { pairs = first.now; whole = true } ≡
+        listing problem.now.rules.now problem.now.rules.now.rules }
+    requires roots { All HasRoot problem.now.hypotheses.now }
+    requires fits { All (SidesFit problem.now.rules.now) problem.now.hypotheses.now }
     ensures solver { IsSolver S.FnMut solve.new }
-    ensures tried { IfOk result (λ t. tried_only t ≡ ranking kind rules.now hypotheses.now) }
+    ensures tried { IfOk result (λ t. tried_only t ≡
+        ranking problem.now.kind problem.now.rules.now problem.now.hypotheses.now) }
 {
-    let parts = rules.parts();
-    if parts.symbols.len() > u32::MAX as usize {
+    if problem.rules.parts().symbols.len() > u32::MAX as usize {
         return Err(NoMemory);
     }
-    let more = hypothesis_pairs(alloc, rules, hypotheses)?;
+    let more = hypothesis_pairs(alloc, problem.rules, problem.hypotheses)?;
     if more.whole {
         let others = more.pairs.as_slice();
-        decide_listed(alloc, kind, parts, hypotheses, first, others, memo, solve)
+        decide_listed(alloc, problem, first, others, memo, solve)
     } else {
         Ok(not_listed())
     }
@@ -161,23 +143,23 @@ fn decide_after<S: FnMut(&Constraint) -> Result<Option<Cert>, FmEnd>>(
 /// rules aren't all listed, none of the hypotheses is made.
 fn decide_all<S: FnMut(&Constraint) -> Result<Option<Cert>, FmEnd>>(
     alloc: Global,
-    kind: RankingKind,
-    rules: &RuleSet,
+    problem: &RankingProblem,
     listed: &Listing,
-    hypotheses: &[Rule],
     memo: &mut RankMemo,
     solve: &mut S,
 ) -> Result<Attempt<()>, NoMemory>
     requires solver { IsSolver S.FnMut solve.old }
-    requires listed { listed.now ≡ listing rules.now rules.now.rules }
-    requires roots { All HasRoot hypotheses.now }
-    requires fits { All (SidesFit rules.now) hypotheses.now }
+    requires listed { listed.now ≡
+        listing problem.now.rules.now problem.now.rules.now.rules }
+    requires roots { All HasRoot problem.now.hypotheses.now }
+    requires fits { All (SidesFit problem.now.rules.now) problem.now.hypotheses.now }
     ensures solver { IsSolver S.FnMut solve.new }
-    ensures tried { IfOk result (λ t. tried_only t ≡ ranking kind rules.now hypotheses.now) }
+    ensures tried { IfOk result (λ t. tried_only t ≡
+        ranking problem.now.kind problem.now.rules.now problem.now.hypotheses.now) }
 {
     if listed.whole {
         let first = listed.pairs.as_slice();
-        decide_after(alloc, kind, rules, first, hypotheses, memo, solve)
+        decide_after(alloc, problem, first, memo, solve)
     } else {
         Ok(not_listed())
     }
@@ -203,7 +185,12 @@ pub fn has_ranks_with<S: FnMut(&Constraint) -> Result<Option<Cert>, FmEnd>>(
     ensures solver { IsSolver S.FnMut solve.new }
     ensures answer { HasRanksAnswer (ranked kind rules.now hypotheses.now) result }
 {
-    match decide_all(alloc, kind, rules, listed, hypotheses, memo, solve) {
+    let problem = RankingProblem {
+        kind,
+        rules,
+        hypotheses,
+    };
+    match decide_all(alloc, &problem, listed, memo, solve) {
         Ok(tried) => {
             let noted = tried.noted;
             match tried.made {

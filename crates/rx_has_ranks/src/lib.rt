@@ -9,6 +9,7 @@
 mod components_memo;
 mod deciding;
 mod hypotheses;
+mod problem;
 mod rank_memo;
 mod staying;
 

@@ -11,14 +11,14 @@ ghost use Rattle.rx_rank.specs.Ranking.{polynomials, tried_in};
 ghost use Rattle.rx_solve.specs.Answers.{IsSolver};
 
 use crate::components_memo::ComponentsMemo;
+use crate::problem::RankingProblem;
 use rx_anchors::is_member;
 use rx_cert::Cert;
 use rx_fm::FmEnd;
 use rx_pairs::Pair;
 use rx_plain::{Items, NoMemory};
-use rx_rank::{Attempt, Fit, PairMemo, RankingKind, fit_component, is_inside};
+use rx_rank::{Attempt, Fit, PairMemo, fit_component, is_inside};
 use rx_row::Constraint;
-use rx_term::{Rule, RuleParts};
 use std::alloc::Global;
 
 /// The pairs that stay open after a column of heights: those inside a component.
@@ -52,20 +52,20 @@ pub(crate) struct OpenPairs<'a> {
 /// are those of the graph of all pairs.
 pub(crate) fn open_pairs<'a>(
     alloc: Global,
-    parts: &RuleParts,
+    problem: &RankingProblem,
     pairs: &[&'a Pair],
     memo: &mut ComponentsMemo,
 ) -> Result<OpenPairs<'a>, NoMemory>
-    requires over { IsOver (length parts.now.symbols) (edges_of (pairs_at pairs.now)) }
-    requires few { length parts.now.symbols ≤ 2 ^ 32 }
+    requires over { IsOver (length problem.now.rules.now.symbols) (edges_of (pairs_at pairs.now)) }
+    requires few { length problem.now.rules.now.symbols ≤ 2 ^ 32 }
     ensures pairs { IfOk result (λ o. pairs_at o.pairs.items ≡
-        inside (length parts.now.symbols) (pairs_at pairs.now)) }
+        inside (length problem.now.rules.now.symbols) (pairs_at pairs.now)) }
     ensures names { IfOk result (λ o. o.names.items ≡
-        representatives_of (length parts.now.symbols) (pairs_at o.pairs.items)) }
+        representatives_of (length problem.now.rules.now.symbols) (pairs_at o.pairs.items)) }
     ensures over { IfOk result (λ o.
-        IsOver (length parts.now.symbols) (edges_of (pairs_at o.pairs.items))) }
+        IsOver (length problem.now.rules.now.symbols) (edges_of (pairs_at o.pairs.items))) }
 {
-    let names = memo.representatives(alloc, parts.symbols.len(), pairs)?;
+    let names = memo.representatives(alloc, problem.symbols(), pairs)?;
     let left = inside_of(alloc, names.as_slice(), pairs)?;
     Ok(OpenPairs { names, pairs: left })
 }
@@ -142,9 +142,7 @@ fn after_fit<'a>(
 /// The pairs of the component with that name that stay open after its first fit choice.
 fn left_in<'a, S: FnMut(&Constraint) -> Result<Option<Cert>, FmEnd>>(
     alloc: Global,
-    kind: RankingKind,
-    parts: &RuleParts,
-    hypotheses: &[Rule],
+    problem: &RankingProblem,
     opened: &OpenPairs<'a>,
     name: u32,
     memo: &mut PairMemo,
@@ -153,8 +151,8 @@ fn left_in<'a, S: FnMut(&Constraint) -> Result<Option<Cert>, FmEnd>>(
     requires solver { IsSolver S.FnMut solve.old }
     ensures solver { IsSolver S.FnMut solve.new }
     ensures tried { IfOk result (λ t. tried_as (λ left. pairs_at left.items) t ≡
-        tried_in kind parts.now hypotheses.now opened.now.names.items
-        (pairs_at opened.now.pairs.items) name) }
+        tried_in problem.now.kind problem.now.rules.now problem.now.hypotheses.now
+        opened.now.names.items (pairs_at opened.now.pairs.items) name) }
     ensures over { IfOk result (λ t. IfSome t.made (λ left.
         (n : ℕ) → IsOver n (edges_of (pairs_at opened.now.pairs.items)) →
         IsOver n (edges_of (pairs_at left.items)))) }
@@ -167,6 +165,9 @@ fn left_in<'a, S: FnMut(&Constraint) -> Result<Option<Cert>, FmEnd>>(
             noted: false,
         });
     }
+    let kind = problem.kind;
+    let parts = problem.rules.parts();
+    let hypotheses = problem.hypotheses;
     let pairs = mine.as_slice();
     let tried = fit_component(
         alloc, kind, parts, hypotheses, names, name, pairs, memo, solve,
@@ -177,38 +178,30 @@ fn left_in<'a, S: FnMut(&Constraint) -> Result<Option<Cert>, FmEnd>>(
 /// The pairs that stay open after a column of polynomials.
 pub(crate) fn left_after<'a, S: FnMut(&Constraint) -> Result<Option<Cert>, FmEnd>>(
     alloc: Global,
-    kind: RankingKind,
-    parts: &RuleParts,
-    hypotheses: &[Rule],
+    problem: &RankingProblem,
     opened: &OpenPairs<'a>,
     memo: &mut PairMemo,
     solve: &mut S,
 ) -> Result<Attempt<Vec<&'a Pair>>, NoMemory>
     requires solver { IsSolver S.FnMut solve.old }
-    requires over { IsOver (length parts.now.symbols) (edges_of (pairs_at opened.now.pairs.items)) }
+    requires over { IsOver (length problem.now.rules.now.symbols)
+        (edges_of (pairs_at opened.now.pairs.items)) }
     requires names { opened.now.names.items ≡
-        representatives_of (length parts.now.symbols) (pairs_at opened.now.pairs.items) }
-    requires few { length parts.now.symbols ≤ 2 ^ 32 }
+        representatives_of (length problem.now.rules.now.symbols)
+        (pairs_at opened.now.pairs.items) }
+    requires few { length problem.now.rules.now.symbols ≤ 2 ^ 32 }
     ensures solver { IsSolver S.FnMut solve.new }
     ensures tried { IfOk result (λ t. tried_as (λ left. pairs_at left.items) t ≡
-        polynomials kind parts.now hypotheses.now (pairs_at opened.now.pairs.items)) }
+        polynomials problem.now.kind problem.now.rules.now problem.now.hypotheses.now
+        (pairs_at opened.now.pairs.items)) }
     ensures over { IfOk result (λ t. IfSome t.made (λ left.
-        IsOver (length parts.now.symbols) (edges_of (pairs_at left.items)))) }
+        IsOver (length problem.now.rules.now.symbols) (edges_of (pairs_at left.items)))) }
 {
-    let symbols = parts.symbols.len();
+    let symbols = problem.symbols();
     let mut left = Vec::new(alloc);
     let mut noted = false;
     for name in 0..symbols {
-        let tried = left_in(
-            alloc,
-            kind,
-            parts,
-            hypotheses,
-            opened,
-            name as u32,
-            memo,
-            solve,
-        )?;
+        let tried = left_in(alloc, problem, opened, name as u32, memo, solve)?;
         noted |= tried.noted;
         match tried.made {
             Some(mut more) => left.append(&mut more)?,

@@ -1,5 +1,5 @@
 -- The graph of pairs, and the names of its components.
-use Rattle.std.proofs.Common.{◌≡◌, ◌∙◌, ap, sym, subst, refl, cond, arith, ℕ, zero, suc, ◌+◌, ◌<◌, Bool, true, false, Option, Some, None, Vec, List, length, map, slice_get, unwrap_or}
+use Rattle.std.proofs.Common.{◌≡◌, ◌∙◌, ap, sym, subst, refl, cond, arith, ℕ, zero, suc, ◌+◌, ◌<◌, Bool, true, false, Option, Some, None, Vec, List, length, slice_get, unwrap_or}
 use Rattle.std.specs.List.{find, range_with_len}
 use Rattle.std.specs.Option.{option_map}
 use Rattle.std.specs.declared.alloc.Global.{Global}
@@ -8,12 +8,11 @@ use Rattle.std.proofs.lemmas.List.FromFn.{get_or-range_with_len, length-range_wi
 use Rattle.std.proofs.lemmas.Option.{slice_get-get_or, slice_get-map}
 use Rattle.rx_graph.proofs.GraphLaws.{lead_below}
 use Rattle.rx_graph.proofs.LabelLaws.{labels_computed}
-use Rattle.rx_graph.specs.Components.{AreComponents}
+use Rattle.rx_graph.specs.Components.{AreComponents, component_of, components_of}
 use Rattle.rx_graph.specs.Graph.{IsGraphOf, IsOver, below, rows_of, together}
 use Rattle.rx_pairs.specs.Graph.{edges_of}
 use Rattle.rx_pairs.specs.declared.pair.Pair.{Pair}
-use Rattle.rx_anchors.specs.Members.{symbols_of}
-use Rattle.rx_rank.specs.Components.{component_of, representatives_of}
+use Rattle.rx_rank.specs.Components.{representatives_of}
 
 -- the graph of pairs
 module _ (symbols : ℕ) (pairs : List Pair) (rows : List (Vec ℕ Global))
@@ -46,17 +45,18 @@ found_below test a (suc n) x found = by (test a) found (found_below test (a + 1)
 
 module _ (n : ℕ) (edges : List (ℕ × ℕ)) where
   pub component_below : (f : ℕ) → f < n → component_of n edges f < n
-  component_below f less = by (find (together edges (below n) f) (symbols_of n)) refl where
-    by : (o : Option ℕ) → find (together edges (below n) f) (symbols_of n) ≡ o → unwrap_or o f < n
+  component_below f less = by (find (together edges (below n) f) (range_with_len 0 n)) refl where
+    by : (o : Option ℕ) → find (together edges (below n) f) (range_with_len 0 n) ≡ o → unwrap_or o f
+        < n
     by None none = less
     by (Some x) some =
         let h = found_below (together edges (below n) f) 0 n x some in omega (arith, h)
 
-  pub name_at : (f : ℕ) → f < n → slice_get (map (component_of n edges) (symbols_of n)) f ≡
+  pub name_at : (f : ℕ) → f < n → slice_get (components_of n edges) f ≡
       Some (component_of n edges f)
   name_at f less =
       let count = length-range_with_len 0 n in
-      slice_get-map (component_of n edges) (symbols_of n) f
+      slice_get-map (component_of n edges) (range_with_len 0 n) f
       ∙ ap (option_map (component_of n edges))
-      (slice_get-get_or (symbols_of n) f 0 (omega (arith, count, less)) ∙
+      (slice_get-get_or (range_with_len 0 n) f 0 (omega (arith, count, less)) ∙
       ap Some (get_or-range_with_len 0 n f 0 less ∙ (let e : 0 + f ≡ f = omega arith in e)))

@@ -1,19 +1,15 @@
 -- The components of a graph of pairs, each with its least symbol as representative.
-use Rattle.std.specs.Prelude.{ℕ, Bool, false, List, map, slice_get, unwrap_or}
-use Rattle.std.specs.List.{filter, find}
+use Rattle.std.specs.Prelude.{ℕ, Bool, false, List, slice_get}
+use Rattle.std.specs.List.{filter}
 use Rattle.std.specs.Option.{option_map_or}
-use Rattle.rx_anchors.specs.Members.{is_member, symbols_of}
-use Rattle.rx_graph.specs.Graph.{below, together}
+use Rattle.rx_anchors.specs.Members.{is_member}
+use Rattle.rx_graph.specs.Components.{components_of}
 use Rattle.rx_pairs.specs.Graph.{edges_of}
 use Rattle.rx_pairs.specs.declared.pair.Pair.{Pair}
 
--- the least symbol of the symbol's component
-abbrev pub component_of : ℕ → List (ℕ × ℕ) → ℕ → ℕ
-component_of n edges f = unwrap_or (find (together edges (below n) f) (symbols_of n)) f
-
 -- by symbol the representative of its component: the least symbol of the component
 abbrev pub representatives_of : ℕ → List Pair → List ℕ
-representatives_of n pairs = map (component_of n (edges_of pairs)) (symbols_of n)
+representatives_of n pairs = components_of n (edges_of pairs)
 
 -- both symbols of the pair are of one component
 abbrev pub is_inside : List ℕ → Pair → Bool

@@ -6,19 +6,19 @@ use Rattle.rx_find_ranks.proofs.Joining.{more_empty, one_joined, open_count}
 use Rattle.rx_find_ranks.specs.Tables.{pairs_open}
 use Rattle.rx_find_ranks.proofs.components.fit_one_more.Goals as goal
 
-pub returns-then-entries-eq0-clause-more : goal.returns-then-entries-eq0-clause-more
-returns-then-entries-eq0-clause-more g c =
-    more_empty c.args.kind c.args.parts.now c.args.hypotheses.now c.args.names.now c.args.name
+pub returns-then-group-eq0-clause-more : goal.returns-then-group-eq0-clause-more
+returns-then-group-eq0-clause-more g c =
+    more_empty c.args.problem.now.kind c.args.problem.now.rules.now c.args.problem.now.hypotheses.now c.args.group.now.names.now c.args.group.now.name
     c.args.before
-    c.args.entries.now c.if-entries-eq0.true
+    c.args.group.now.entries.now c.if-group-eq0.true
 
 pub returns-clause-more : goal.returns-clause-more
 returns-clause-more g c =
-    let pairs = pairs_open c.args.entries.now in
+    let pairs = pairs_open c.args.group.now.entries.now in
     let some : length pairs ≡ 0 → ⊥ = λ none.
-    c.if-entries-eq0.false (sym (open_count c.args.entries.now) ∙ none) in
+    c.if-group-eq0.false (sym (open_count c.args.group.now.entries.now) ∙ none) in
     IfOk-weaker c.join_next.result _ _
-    (λ t h. one_joined c.args.kind c.args.parts.now c.args.hypotheses.now c.args.names.now
-    c.args.name pairs
+    (λ t h. one_joined c.args.problem.now.kind c.args.problem.now.rules.now c.args.problem.now.hypotheses.now c.args.group.now.names.now
+    c.args.group.now.name pairs
     c.args.before c.in_ok-tried.tried t some c.in_ok-tried.ensures.tried c.in_ok-tried.ensures.fit
     h) c.join_next.ensures

@@ -11,24 +11,24 @@ fit_groups-requires-clause-few g c =
     let entries = c.args.entries.items in
     let names = c.as_slice-names.result.now in
     let groups = c.in_ok-groups.groups.items in
-    let found : names ≡ representatives_of (length c.args.parts.now.symbols) (pairs_open entries) =
+    let found : names ≡ representatives_of (length c.args.problem.now.rules.now.symbols) (pairs_open entries) =
     c.as_slice-names.ensures.value ∙ c.in_ok-components.ensures ∙
-    (λ i. representatives_of (c.len.ensures i) (pairs_open (c.as_slice.ensures.value i))) in
-    few_groups c.args.kind c.args.parts.now c.args.hypotheses.now entries names groups
-    c.as_slice-lent.result.now
-    found c.in_ok-groups.ensures c.as_slice-lent.ensures.value c.requires.few
+    (λ i. representatives_of (c.symbols.ensures i) (pairs_open (c.as_slice.ensures.value i))) in
+    few_groups c.args.problem.now.kind c.args.problem.now.rules.now c.args.problem.now.hypotheses.now entries names groups
+    c.as_slice-2.result.now
+    found c.in_ok-groups.ensures c.as_slice-2.ensures.value c.requires.few
 
 pub returns-clause-tried : goal.returns-clause-tried
 returns-clause-tried g c =
     let entries = c.args.entries.items in
     let names = c.as_slice-names.result.now in
     let groups = c.in_ok-groups.groups.items in
-    let found : names ≡ representatives_of (length c.args.parts.now.symbols) (pairs_open entries) =
+    let found : names ≡ representatives_of (length c.args.problem.now.rules.now.symbols) (pairs_open entries) =
     c.as_slice-names.ensures.value ∙ c.in_ok-components.ensures ∙
-    (λ i. representatives_of (c.len.ensures i) (pairs_open (c.as_slice.ensures.value i))) in
+    (λ i. representatives_of (c.symbols.ensures i) (pairs_open (c.as_slice.ensures.value i))) in
     IfOk-weaker c.with_entries.result _ _
-    (λ t are. fits_tried c.args.kind c.args.parts.now c.args.hypotheses.now entries names groups
-    c.as_slice-lent.result.now found c.in_ok-groups.ensures c.as_slice-lent.ensures.value
+    (λ t are. fits_tried c.args.problem.now.kind c.args.problem.now.rules.now c.args.problem.now.hypotheses.now entries names groups
+    c.as_slice-2.result.now found c.in_ok-groups.ensures c.as_slice-2.ensures.value
     c.in_ok-tried.tried t c.in_ok-tried.ensures.tried are) c.with_entries.ensures
 
 pub returns-clause-fits : goal.returns-clause-fits
@@ -36,11 +36,11 @@ returns-clause-fits g c =
     let entries = c.args.entries.items in
     let names = c.as_slice-names.result.now in
     let groups = c.in_ok-groups.groups.items in
-    let found : names ≡ representatives_of (length c.args.parts.now.symbols) (pairs_open entries) =
+    let found : names ≡ representatives_of (length c.args.problem.now.rules.now.symbols) (pairs_open entries) =
     c.as_slice-names.ensures.value ∙ c.in_ok-components.ensures ∙
-    (λ i. representatives_of (c.len.ensures i) (pairs_open (c.as_slice.ensures.value i))) in
+    (λ i. representatives_of (c.symbols.ensures i) (pairs_open (c.as_slice.ensures.value i))) in
     IfOk-weaker c.with_entries.result _ _
-    (λ t are. fits_are c.args.kind c.args.parts.now c.args.hypotheses.now entries names groups
-    c.as_slice-lent.result.now found c.in_ok-groups.ensures c.as_slice-lent.ensures.value
+    (λ t are. fits_are c.args.problem.now.kind c.args.problem.now.rules.now c.args.problem.now.hypotheses.now entries names groups
+    c.as_slice-2.result.now found c.in_ok-groups.ensures c.as_slice-2.ensures.value
     c.requires.over c.in_ok-tried.tried.made t.made are.made c.in_ok-tried.ensures.fit)
     c.with_entries.ensures

@@ -18,7 +18,7 @@ returns-clause-tried g c =
     let fits = c.in-Some.fits in
     let before = c.args.progress in
     let is : c.in_ok-tried.tried.made ≡ Some fits = c.in-Some.is in
-    let are = subst (λ o. IfSome o (AreFits c.args.parts.now.symbols before.entries.items)) is
+    let are = subst (λ o. IfSome o (AreFits c.args.problem.now.rules.now.symbols before.entries.items)) is
     c.in_ok-tried.ensures.fits in
     let view : Fits → List Pair = λ f. still_open (pairs_open f.entries.items) f.falls.items in
     let shown : Option (List Pair) → Tried (List Pair) = λ o.
@@ -37,11 +37,11 @@ returns-clause-grown g c =
     let before = c.args.progress in
     let after = c.in_ok-after.after in
     let is : c.in_ok-tried.tried.made ≡ Some fits = c.in-Some.is in
-    let are = subst (λ o. IfSome o (AreFits c.args.parts.now.symbols before.entries.items)) is
+    let are = subst (λ o. IfSome o (AreFits c.args.problem.now.rules.now.symbols before.entries.items)) is
     c.in_ok-tried.ensures.fits in
     let moved : Fits → List OpenPair = λ f. fallen
     (fitted f.entries.items f.holds.items f.falls.items) in
-    fits_grown c.args.parts.now.symbols before after fits are
+    fits_grown c.args.problem.now.rules.now.symbols before after fits are
     (c.in_ok-after.ensures.columns
     ∙ ap (λ (f : Fits). before.columns.items ++ Polynomials f.column ∷ []) c.in-Some.fits-is)
     (c.in_ok-after.ensures.staying ∙ ap (λ (f : Fits).

@@ -13,14 +13,14 @@ use Rattle.rx_has_ranks.proofs.deciding.+decide_from.Goals as goal
 
 pub returns-then-len-eq0-clause-tried : goal.returns-then-len-eq0-clause-tried
 returns-then-len-eq0-clause-tried g t c =
-    all_closed c.args.kind c.args.parts.now c.args.hypotheses.now (pairs_at c.args.pairs.now)
+    all_closed c.args.problem.now.kind c.args.problem.now.rules.now c.args.problem.now.hypotheses.now (pairs_at c.args.pairs.now)
     (pairs_at c.in_ok-opened.opened.pairs.items) c.in_ok-opened.ensures.pairs c.args.left
     (let count = lent_count c.in_ok-opened.opened.pairs.items in let none = c.if-len-eq0.true in
     omega (arith, count, none))
 
 pub returns-then-left-eq0-clause-tried : goal.returns-then-left-eq0-clause-tried
 returns-then-left-eq0-clause-tried g t c =
-    no_more_rounds c.args.kind c.args.parts.now c.args.hypotheses.now (pairs_at c.args.pairs.now)
+    no_more_rounds c.args.problem.now.kind c.args.problem.now.rules.now c.args.problem.now.hypotheses.now (pairs_at c.args.pairs.now)
     (pairs_at c.in_ok-opened.opened.pairs.items) c.in_ok-opened.ensures.pairs
     (let count = lent_count c.in_ok-opened.opened.pairs.items in
     λ none. c.if-len-eq0.false (omega (arith, count, none)))
@@ -28,8 +28,8 @@ returns-then-left-eq0-clause-tried g t c =
 
 pub returns-in-Some-clause-tried : goal.returns-in-Some-clause-tried
 returns-in-Some-clause-tried g t c =
-    let parts = c.args.parts.now in
-    let hypotheses = c.args.hypotheses.now in
+    let parts = c.args.problem.now.rules.now in
+    let hypotheses = c.args.problem.now.hypotheses.now in
     let k = c.args.left - 1 in
     let some = c.if-left-eq0.false in
     let one_less : c.args.left ≡ suc k = omega (arith, some) in
@@ -37,7 +37,7 @@ returns-in-Some-clause-tried g t c =
       made = option_map (λ x. tt {0}) (c.noted_before.ensures.made i);
       noted = c.noted_before.ensures.noted i;
     })
-    ∙ round_goes_on c.args.kind parts hypotheses (pairs_at c.args.pairs.now)
+    ∙ round_goes_on c.args.problem.now.kind parts hypotheses (pairs_at c.args.pairs.now)
     (pairs_at c.in_ok-opened.opened.pairs.items) c.in_ok-opened.ensures.pairs
     (let count = lent_count c.in_ok-opened.opened.pairs.items in
     λ none. c.if-len-eq0.false (omega (arith, count, none)))
@@ -50,7 +50,7 @@ returns-in-Some-clause-tried g t c =
           c.in_ok-rest-in-Some.rest.noted;
     })
     (c.in_ok-rest-in-Some.ensures.tried ∙
-    ap (λ refs. ranking_from c.args.kind parts hypotheses k (pairs_at refs))
+    ap (λ refs. ranking_from c.args.problem.now.kind parts hypotheses k (pairs_at refs))
     (c.as_slice-next.ensures.value ∙ ap (λ (v : Vec (Bor Pair) Global). v.items) c.in-Some.next-is))
 
 pub returns-clause-tried : goal.returns-clause-tried
@@ -58,7 +58,7 @@ returns-clause-tried g t c =
     let k = c.args.left - 1 in
     let some = c.if-left-eq0.false in
     let one_less : c.args.left ≡ suc k = omega (arith, some) in
-    round_ends c.args.kind c.args.parts.now c.args.hypotheses.now (pairs_at c.args.pairs.now)
+    round_ends c.args.problem.now.kind c.args.problem.now.rules.now c.args.problem.now.hypotheses.now (pairs_at c.args.pairs.now)
     (pairs_at c.in_ok-opened.opened.pairs.items) c.in_ok-opened.ensures.pairs
     (let count = lent_count c.in_ok-opened.opened.pairs.items in
     λ none. c.if-len-eq0.false (omega (arith, count, none)))

@@ -13,36 +13,36 @@ use Rattle.rx_has_ranks.proofs.staying.left_after.Goals as goal
 
 pub returns-in-None-clause-tried : goal.returns-in-None-clause-tried
 returns-in-None-clause-tried g c =
-    let parts = c.args.parts.now in
-    let hypotheses = c.args.hypotheses.now in
+    let parts = c.args.problem.now.rules.now in
+    let hypotheses = c.args.problem.now.hypotheses.now in
     let pairs = pairs_at c.args.opened.now.pairs.items in
     let name = c.loop-name.name in
-    let size = c.len-symbols.ensures in
+    let size = c.symbols-symbols.ensures in
     let inner = c.loop-name-test.true in
-    left_failed c.args.kind parts hypotheses pairs name c.loop-name.noted
+    left_failed c.args.problem.now.kind parts hypotheses pairs name c.loop-name.noted
     (pairs_at c.loop-name.left.items)
     c.loop-name.invariant.left (omega (arith, size, inner))
     (option_map (λ v. pairs_at v.items) c.in_ok-tried.tried.made) c.in_ok-tried.tried.noted
-    (c.in_ok-tried.ensures.tried ∙ ap (λ ns. tried_in c.args.kind parts hypotheses ns pairs name)
+    (c.in_ok-tried.ensures.tried ∙ ap (λ ns. tried_in c.args.problem.now.kind parts hypotheses ns pairs name)
     c.requires.names) (ap (option_map (λ v. pairs_at v.items)) c.in-None.is)
 
 pub loop-name-preserved : goal.loop-name-preserved
 loop-name-preserved g c =
-    let parts = c.args.parts.now in
-    let hypotheses = c.args.hypotheses.now in
+    let parts = c.args.problem.now.rules.now in
+    let hypotheses = c.args.problem.now.hypotheses.now in
     let pairs = pairs_at c.args.opened.now.pairs.items in
     let name = c.loop-name.name in
-    let size = c.len-symbols.ensures in
+    let size = c.symbols-symbols.ensures in
     let inner = c.loop-name-test.true in
     let over = subst (λ o. IfSome o (λ v. (n : ℕ) → IsOver n (edges_of pairs) →
     IsOver n (edges_of (pairs_at v.items)))) c.in-Some.is c.in_ok-tried.ensures.over in
     record {
       solver = c.left_in.ensures.solver;
       left =
-          left_next c.args.kind parts hypotheses pairs name c.loop-name.noted
+          left_next c.args.problem.now.kind parts hypotheses pairs name c.loop-name.noted
           (pairs_at c.loop-name.left.items) c.loop-name.invariant.left (omega (arith, size, inner))
           (option_map (λ v. pairs_at v.items) c.in_ok-tried.tried.made) c.in_ok-tried.tried.noted
-          (c.in_ok-tried.ensures.tried ∙ ap (λ ns. tried_in c.args.kind parts hypotheses ns pairs
+          (c.in_ok-tried.ensures.tried ∙ ap (λ ns. tried_in c.args.problem.now.kind parts hypotheses ns pairs
           name)
           c.requires.names) (pairs_at c.in-Some.more.items) (pairs_at c.append.new.self.items)
           (ap (option_map (λ v. pairs_at v.items)) c.in-Some.is)

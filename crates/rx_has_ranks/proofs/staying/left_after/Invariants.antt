@@ -7,6 +7,6 @@ use Rattle.rx_has_ranks.proofs.staying.left_after.Given as goal
 abbrev pub invariant-loop-name : goal.invariant-loop-name
 invariant-loop-name g l = record {
   solver : IsSolver g.S.FnMut l.solve;
-  left : IsLeft l.kind l.parts l.hypotheses (pairs_at l.opened.pairs.items) l.name l.noted
+  left : IsLeft l.problem.kind l.problem.rules.now l.problem.hypotheses.now (pairs_at l.opened.pairs.items) l.name l.noted
       (pairs_at l.left.items);
 }

@@ -16,10 +16,11 @@ returns-clause-tried g c =
     let mine = c.as_slice-pairs.ensures.value in
     let none = c.if-len-eq0.false in
     subst (λ r. IfOk c.after_fit.result (λ t. tried_as (λ left. pairs_at left.items) t ≡ r))
-    (component_tried a.kind a.parts.now a.hypotheses.now c.as_slice-names.result.now a.name refs
+    (component_tried a.problem.now.kind c.parts-parts.result.now a.problem.now.hypotheses.now c.as_slice-names.result.now a.name refs
     (pairs_at c.as_slice.result.now) (ap pairs_at mine ∙ c.in_ok-mine.ensures)
     (λ e. none (omega (arith, e))) _ c.in_ok-tried.ensures.tried
-    ∙ (λ i. tried_in a.kind a.parts.now a.hypotheses.now (c.as_slice-names.ensures.value i)
+    ∙ (λ i. tried_in a.problem.now.kind (c.parts-parts.ensures.parts i) a.problem.now.hypotheses.now
+    (c.as_slice-names.ensures.value i)
     (pairs_at (c.as_slice.ensures.value i)) a.name))
     c.after_fit.ensures.tried
 

@@ -14,13 +14,13 @@ returns-clause-pairs c =
     let pairs = pairs_at c.args.pairs.now in
     c.in_ok-left.ensures ∙ ap (λ ns. filter (is_inside ns) pairs)
     (c.as_slice.ensures.value ∙ c.in_ok-names.ensures.names ∙ ap (λ k. representatives_of k pairs)
-    c.len.ensures)
+    c.symbols.ensures)
 
 pub returns-clause-names : goal.returns-clause-names
 returns-clause-names c =
     let pairs = pairs_at c.args.pairs.now in
-    let n = length c.args.parts.now.symbols in
-    let names = c.in_ok-names.ensures.names ∙ ap (λ k. representatives_of k pairs) c.len.ensures in
+    let n = length c.args.problem.now.rules.now.symbols in
+    let names = c.in_ok-names.ensures.names ∙ ap (λ k. representatives_of k pairs) c.symbols.ensures in
     names ∙ sym (names_inside n pairs c.requires.over)
     ∙ ap (representatives_of n) (sym (c.in_ok-left.ensures ∙ ap (λ ns. filter (is_inside ns) pairs)
     (c.as_slice.ensures.value ∙ names)))
@@ -28,9 +28,9 @@ returns-clause-names c =
 pub returns-clause-over : goal.returns-clause-over
 returns-clause-over c =
     let pairs = pairs_at c.args.pairs.now in
-    let n = length c.args.parts.now.symbols in
+    let n = length c.args.problem.now.rules.now.symbols in
     subst (λ ps. IsOver n (edges_of ps))
     (sym (c.in_ok-left.ensures ∙ ap (λ ns. filter (is_inside ns) pairs)
     (c.as_slice.ensures.value ∙ c.in_ok-names.ensures.names ∙ ap (λ k. representatives_of k pairs)
-    c.len.ensures)))
+    c.symbols.ensures)))
     (over_filtered n (is_inside (representatives_of n pairs)) pairs c.requires.over)
