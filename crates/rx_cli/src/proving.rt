@@ -38,8 +38,8 @@ use rx_rank::RankingKind;
 use rx_report::{Answer, Verdict};
 use rx_row::Constraint;
 use rx_search::{
-    Beginning, Inside, MOST_KEPT, SearchEnd, SearchSpace, begin, log_inside, log_of, rule_pairs,
-    search_over, unranked_end,
+    Beginning, Inside, MOST_KEPT, SearchEnd, SearchSpace, SearchTask, begin, log_inside, log_of,
+    rule_pairs, search_over, unranked_end,
 };
 use rx_solve::refutes;
 use rx_term::{Equation, RuleSet};
@@ -195,17 +195,13 @@ fn search_both<
     ensures lemma { IsLemmaFinder S.FnMut L.FnMut lemma.new }
     ensures found { IsFoundOver space.now.kind space.now.rules.now goal.now effort result }
 {
-    match search_over(
-        alloc,
-        space,
+    let task = SearchTask {
         goal,
-        effort.depth,
-        effort.budget,
-        MOST_KEPT,
-        ranks,
-        solve,
-        lemma,
-    ) {
+        depth: effort.depth,
+        budget: effort.budget,
+        most_kept: MOST_KEPT,
+    };
+    match search_over(alloc, space, &task, ranks, solve, lemma) {
         Ok(log) => Ok(log),
         Err(end) => search_on(alloc, space, goal, effort, end, ranks, solve),
     }

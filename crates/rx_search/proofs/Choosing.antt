@@ -1,6 +1,6 @@
 -- The choices so far, with one more.
-use Rattle.std.proofs.Common.{◌≡◌, ℕ, ◌+◌, ◌<◌, Bool, false, ◌||◌, Option, Some, None, Result, Ok, Err, List, [], ◌∷◌, ◌++◌, map, length, get_or, take, refl, sym, ap, subst, ◌∙◌, All}
-use Rattle.std.specs.Prelude.{IfSome, OnOk}
+use Rattle.std.proofs.Common.{◌≡◌, ℕ, ◌+◌, ◌<◌, Bool, false, ◌||◌, Option, Some, None, List, [], ◌∷◌, ◌++◌, map, length, get_or, take, refl, sym, ap, subst, ◌∙◌, All}
+use Rattle.std.specs.Prelude.{IfSome}
 use Rattle.std.specs.List.{filter_map}
 use Rattle.std.specs.Option.{option_map}
 use Rattle.std.proofs.lemmas.List.{map-append, take_more}
@@ -16,7 +16,7 @@ use Rattle.rx_search.specs.NodeNodes as nodes
 use Rattle.rx_search.specs.NodeNodes.{node_with}
 use Rattle.rx_search.specs.Search.{child}
 use Rattle.rx_search.specs.declared.node_choices.Choices.{Choices}
-use Rattle.rx_search.specs.declared.node_choices.Trial.{Trial}
+use Rattle.rx_rank.specs.declared.attempt.Attempt.{Attempt}
 use Rattle.rx_search.specs.declared.node.Node.{Node}
 use Rattle.rx_deepening.specs.Views.{seen_choice}
 use Rattle.rx_deepening.specs.declared.tree.Choice.{Choice}
@@ -46,29 +46,18 @@ module _ (from : Node) where
       subst (AreChoices from []) (sym same) (record { choices = refl; noted = refl })
 
   pub choices_grow : (cs : List Chosen) (found : Choices) (number : ℕ) (tried : Tried Next)
-      (trial : Trial) → AreChoices from cs found
+      (trial : Attempt Node) → AreChoices from cs found
       → IsTried from tried trial → AreChoices from (cs ++ choice number tried ∷ [])
       (with_choice found number trial)
   choices_grow cs found number tried trial are is = record {
     choices =
-        map-append (seen_choice node_of) found.choices (choice_of number trial.node)
-        ∙ (λ i. are.choices i ++ one_choice number trial.node tried.noted tried.made is.node i)
+        map-append (seen_choice node_of) found.choices (choice_of number trial.made)
+        ∙ (λ i. are.choices i ++ one_choice number trial.made tried.noted tried.made is.made i)
         ∙ sym (filter_map-append (child (node_of from)) cs (choice number tried ∷ []));
     noted =
         (λ i. are.noted i || (is.noted ∙ sym (or_false tried.noted)) i)
         ∙ sym (list_any-append (λ (c : Chosen). c.tried.noted) cs (choice number tried ∷ []));
   }
-
-  -- of a call
-  pub choices_grow_call : {A E : Type 0} (cs : List Chosen) (found new : Choices) (number : ℕ)
-      (tried : Tried Next) (trial : Trial)
-      → IsTried from tried trial → (result : Result A E) →
-      OnOk result (new ≡ with_choice found number trial) → AreChoices from cs found
-      → OnOk result (AreChoices from (cs ++ choice number tried ∷ []) new)
-  choices_grow_call cs found new number tried trial is (Ok x) same are =
-      subst (AreChoices from (cs ++ choice number tried ∷ [])) (sym same)
-      (choices_grow cs found number tried trial are is)
-  choices_grow_call cs found new number tried trial is (Err e) same are = tt
 
 -- one more of a list
 pub taken_more : {A B : Type 0} (f : A → B) (xs : List A) (i : ℕ) (x : A) → i < length xs → x ≡
@@ -93,19 +82,10 @@ module _ (P : Node → Type 0) where
       subst (λ (f : Choices). All AtChoice f.choices) (sym same) (All-nil AtChoice)
 
   -- what holds of the nodes so far, and of the new one
-  pub nodes_grow : (found : Choices) (number : ℕ) (trial : Trial) → All AtChoice found.choices →
-      IfSome trial.node P
+  pub nodes_grow : (found : Choices) (number : ℕ) (trial : Attempt Node) →
+      All AtChoice found.choices →
+      IfSome trial.made P
       → All AtChoice (with_choice found number trial).choices
   nodes_grow found number trial all is =
-      All-append AtChoice found.choices (choice_of number trial.node) all
-      (one_node number trial.node is)
-
-  -- of a call
-  pub nodes_grow_call : {A E : Type 0} (found new : Choices) (number : ℕ) (trial : Trial) →
-      IfSome trial.node P → (result : Result A E)
-      → OnOk result (new ≡ with_choice found number trial) → All AtChoice found.choices →
-      OnOk result (All AtChoice new.choices)
-  nodes_grow_call found new number trial is (Ok x) same all =
-      subst (λ (f : Choices). All AtChoice f.choices) (sym same)
-      (nodes_grow found number trial all is)
-  nodes_grow_call found new number trial is (Err e) same all = tt
+      All-append AtChoice found.choices (choice_of number trial.made) all
+      (one_node number trial.made is)

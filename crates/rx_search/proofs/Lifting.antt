@@ -28,7 +28,7 @@ use Rattle.rx_search.specs.Candidates.{lemma_candidate, number_of}
 use Rattle.rx_search.specs.Menu.{Attempted, attempted, attempted_all, attempted_at, attempted_by, chosen_at, chosen_of, if_ranks}
 use Rattle.rx_search.specs.Calls.{led}
 use Rattle.rx_search.specs.Nodes.{IsNode, IsReached, IsTried, if_ranked}
-use Rattle.rx_search.specs.declared.node_choices.Trial.{Trial}
+use Rattle.rx_rank.specs.declared.attempt.Attempt.{Attempt}
 use Rattle.rx_search.specs.declared.node_choices.KnownChoice.{KnownChoice}
 use Rattle.rx_search.specs.declared.node.Node.{Node}
 use Rattle.rx_settle.proofs.KnownLaws.{applied_lifted, attempt_lifted}
@@ -171,7 +171,7 @@ module _ (kind : RankingKind) (parts : RuleParts) (from : Node) (k : KnownChoice
       (refl, taken_by step taken from.state.goals is.first)
 
   reached_here : (goal : Equation) → IsReached parts goal from → (o : Option Step) →
-      IfSome o IsTakenAlone → IfSome (led most_moves from o k.noted after_here).node
+      IfSome o IsTakenAlone → IfSome (led most_moves from o k.noted after_here).made
       (IsReached parts goal)
   reached_here goal reached None taken = tt
   reached_here goal reached (Some step) taken =
@@ -180,7 +180,7 @@ module _ (kind : RankingKind) (parts : RuleParts) (from : Node) (k : KnownChoice
 
   -- nothing is kept: there are ranks still
   node_by : k.keeps ≡ false → (goal : Equation) → IsNode kind parts goal from → (o : Option Step) →
-      IfSome o IsTakenAlone → IfSome (led most_moves from o k.noted after_here).node
+      IfSome o IsTakenAlone → IfSome (led most_moves from o k.noted after_here).made
       (IsNode kind parts goal)
   node_by e goal node None taken = tt
   node_by e goal node (Some step) taken =
@@ -192,17 +192,17 @@ module _ (kind : RankingKind) (parts : RuleParts) (from : Node) (k : KnownChoice
         ranked = ap (ranked kind parts) hypotheses ∙ node.ranked;
       }
 
-  module _ (t : Trial) (same : t ≡ led most_moves from k.step k.noted after_here) where
+  module _ (t : Attempt Node) (same : t ≡ led most_moves from k.step k.noted after_here) where
     -- what comes of it before ranks are found
     plainly_tried : IsTried from (lifted from.state (seen_known k).tried) t
     plainly_tried =
         subst (IsTried from (lifted from.state (seen_known k).tried)) (sym same)
         (tried_by k.step is.right.taken)
 
-    pub known_reached : (goal : Equation) → IsReached parts goal from → IfSome t.node
+    pub known_reached : (goal : Equation) → IsReached parts goal from → IfSome t.made
         (IsReached parts goal)
     known_reached goal reached =
-        subst (λ (t : Trial). IfSome t.node (IsReached parts goal)) (sym same)
+        subst (λ (t : Attempt Node). IfSome t.made (IsReached parts goal)) (sym same)
         (reached_here goal reached k.step is.right.taken)
 
     -- where nothing is kept
@@ -213,15 +213,16 @@ module _ (kind : RankingKind) (parts : RuleParts) (from : Node) (k : KnownChoice
           (λ b. IsTried from (if_ranks kind parts b (lifted from.state (seen_known k).tried)) t)
           (sym unkept) plainly_tried
 
-      pub unkept_node : (goal : Equation) → IsNode kind parts goal from → IfSome t.node
+      pub unkept_node : (goal : Equation) → IsNode kind parts goal from → IfSome t.made
           (IsNode kind parts goal)
       unkept_node goal node =
-          subst (λ (t : Trial). IfSome t.node (IsNode kind parts goal)) (sym same)
+          subst (λ (t : Attempt Node). IfSome t.made (IsNode kind parts goal)) (sym same)
           (node_by unkept goal node k.step is.right.taken)
 
     -- where the goal is kept
     module _ (kept : k.keeps ≡ true) where
-      pub kept_some : (next : Node) → t.node ≡ Some next → (result : Result Trial NoMemory) →
+      pub kept_some : (next : Node) → t.made ≡ Some next →
+          (result : Result (Attempt Node) NoMemory) →
           IfOk result (λ x. x ≡ if_ranked (ranked kind parts next.state.hypotheses) next t.noted) →
           IfOk result (IsTried from (tried_at kind parts from.state k))
       kept_some next leads result is_ranked =
@@ -232,12 +233,12 @@ module _ (kind : RankingKind) (parts : RuleParts) (from : Node) (k : KnownChoice
           (keeping_ranked_call from kind parts (lifted from.state (seen_known k).tried) t next
           plainly_tried leads result is_ranked)
 
-      pub kept_none : t.node ≡ None → IsTried from (tried_at kind parts from.state k)
-          (record { node = None; noted = t.noted })
+      pub kept_none : t.made ≡ None → IsTried from (tried_at kind parts from.state k)
+          (record { made = None; noted = t.noted })
       kept_none leads =
           subst
           (λ b. IsTried from (if_ranks kind parts b (lifted from.state (seen_known k).tried))
-          (record { node = None; noted = t.noted }))
+          (record { made = None; noted = t.noted }))
           (sym kept)
           (keeping_none from kind parts (lifted from.state
           (seen_known k).tried) t plainly_tried leads)

@@ -36,7 +36,7 @@ use Rattle.rx_search.specs.Calls.{led, node_of, with_step}
 use Rattle.rx_search.specs.Nodes.{IsNode, IsReached, IsTried, KeepsNone, if_ranked}
 use Rattle.rx_search.specs.NodeNodes as nodes
 use Rattle.rx_search.specs.NodeNodes.{node_with}
-use Rattle.rx_search.specs.declared.node_choices.Trial.{Trial}
+use Rattle.rx_rank.specs.declared.attempt.Attempt.{Attempt}
 use Rattle.rx_search.specs.declared.node.Node.{Node}
 use Rattle.rx_settle.proofs.ReachedLaws.{IsDeep, after_one}
 
@@ -61,13 +61,13 @@ module _ (parts : RuleParts) (from : Node) (state : State) (tried : Tried Next) 
   led_by None noted same takes =
       let (made, _) = takes in
       record {
-        node = ap (option_map (node_with most_moves (node_of from))) (sym made);
+        made = ap (option_map (node_with most_moves (node_of from))) (sym made);
         noted = same;
       }
   led_by (Some step) noted same takes =
       let (made, _) = takes in
       record {
-        node =
+        made =
             ap Some (seen_after from step state) ∙
             ap (option_map (node_with most_moves (node_of from))) (sym made);
         noted = same;
@@ -76,7 +76,7 @@ module _ (parts : RuleParts) (from : Node) (state : State) (tried : Tried Next) 
   -- and the node is reached
   pub reached_by : (goal : Equation) (taken : Option Step) (noted : Bool) →
       Takes parts from.state state tried.made taken → IsReached parts goal from
-      → IfSome (led most_moves from taken noted state).node (IsReached parts goal)
+      → IfSome (led most_moves from taken noted state).made (IsReached parts goal)
   reached_by goal None noted takes reached = tt
   reached_by goal (Some step) noted takes reached =
       let (_, applies) = takes in
@@ -100,9 +100,9 @@ module _ (from : Node) (kind : RankingKind) (parts : RuleParts) where
   ranked_by : (node : Node) (noted : Bool) (next : Next) (said : Said) → node_of node ≡
       node_with most_moves (node_of from) next
       → IsTried from (noting noted (where_shown said next)) (if_ranked said node noted)
-  ranked_by node noted next Yes same = record { node = ap Some same; noted = sym (or_false noted) }
-  ranked_by node noted next No same = record { node = refl; noted = sym (or_false noted) }
-  ranked_by node noted next Beyond same = record { node = refl; noted = sym (or_true noted) }
+  ranked_by node noted next Yes same = record { made = ap Some same; noted = sym (or_false noted) }
+  ranked_by node noted next No same = record { made = refl; noted = sym (or_false noted) }
+  ranked_by node noted next Beyond same = record { made = refl; noted = sym (or_true noted) }
 
   then_ranked : (node : Node) (noted : Bool) (made : Option Next) → Some (node_of node) ≡
       option_map (node_with most_moves (node_of from)) made
@@ -118,38 +118,39 @@ module _ (from : Node) (kind : RankingKind) (parts : RuleParts) where
       state (ranked_by node noted next (ranked kind parts node.state.hypotheses) seen)
 
   -- the node that the expansion leads to, where ranks are found
-  pub keeping_ranked : (tried : Tried Next) (found : Trial) (node : Node) →
-      IsTried from tried found → found.node ≡ Some node
+  pub keeping_ranked : (tried : Tried Next) (found : Attempt Node) (node : Node) →
+      IsTried from tried found → found.made ≡ Some node
       → IsTried from (then_try tried next_ranked)
       (if_ranked (ranked kind parts node.state.hypotheses) node found.noted)
   keeping_ranked tried found node is leads =
       let same : Some (node_of node) ≡ option_map (node_with most_moves (node_of from)) tried.made =
-      ap (option_map node_of) (sym leads) ∙ is.node in
+      ap (option_map node_of) (sym leads) ∙ is.made in
       subst (λ noted. IsTried from (then_by tried.made noted next_ranked)
       (if_ranked (ranked kind parts node.state.hypotheses) node found.noted))
       is.noted (then_ranked node found.noted tried.made same)
 
   none_by : (noted : Bool) (made : Option Next) → None ≡ option_map (node_with most_moves
       (node_of from)) made
-      → IsTried from (then_by made noted next_ranked) (record { node = None; noted = noted })
-  none_by noted None same = record { node = refl; noted = refl }
+      → IsTried from (then_by made noted next_ranked) (record { made = None; noted = noted })
+  none_by noted None same = record { made = refl; noted = refl }
   none_by noted (Some next) same = absurd cc
 
-  pub keeping_none : (tried : Tried Next) (found : Trial) → IsTried from tried found → found.node ≡
+  pub keeping_none : (tried : Tried Next) (found : Attempt Node) → IsTried from tried found →
+      found.made ≡
       None
-      → IsTried from (then_try tried next_ranked) (record { node = None; noted = found.noted })
+      → IsTried from (then_try tried next_ranked) (record { made = None; noted = found.noted })
   keeping_none tried found is leads =
       let same : None ≡ option_map (node_with most_moves (node_of from)) tried.made =
-      ap (option_map node_of) (sym leads) ∙ is.node in
+      ap (option_map node_of) (sym leads) ∙ is.made in
       subst (λ noted. IsTried from (then_by tried.made noted next_ranked)
-      (record { node = None; noted = found.noted }))
+      (record { made = None; noted = found.noted }))
       is.noted (none_by found.noted tried.made same)
 
 -- such a node is one of the search
 node_by : (kind : RankingKind) (parts : RuleParts) (goal : Equation) (node : Node) (noted : Bool)
     (said : Said) →
     ranked kind parts node.state.hypotheses ≡ said
-    → IsReached parts goal node → IfSome (if_ranked said node noted).node (IsNode kind parts goal)
+    → IsReached parts goal node → IfSome (if_ranked said node noted).made (IsNode kind parts goal)
 node_by kind parts goal node noted Yes is reached = record { reached = reached; ranked = is }
 node_by kind parts goal node noted No is reached = tt
 node_by kind parts goal node noted Beyond is reached = tt
@@ -157,7 +158,7 @@ node_by kind parts goal node noted Beyond is reached = tt
 pub node_ranked : (kind : RankingKind) (parts : RuleParts) (goal : Equation) (node : Node)
     (noted : Bool) →
     IsReached parts goal node
-    → IfSome (if_ranked (ranked kind parts node.state.hypotheses) node noted).node
+    → IfSome (if_ranked (ranked kind parts node.state.hypotheses) node noted).made
     (IsNode kind parts goal)
 node_ranked kind parts goal node noted reached =
     node_by kind parts goal node noted (ranked kind parts node.state.hypotheses) refl reached
@@ -165,9 +166,9 @@ node_ranked kind parts goal node noted reached =
 -- ---- of calls
 
 pub keeping_ranked_call : (from : Node) (kind : RankingKind) (parts : RuleParts)
-    (tried : Tried Next) (found : Trial)
+    (tried : Tried Next) (found : Attempt Node)
     (node : Node) → IsTried from tried found
-    → found.node ≡ Some node → (result : Result Trial NoMemory)
+    → found.made ≡ Some node → (result : Result (Attempt Node) NoMemory)
     → IfOk result (λ t. t ≡ if_ranked (ranked kind parts node.state.hypotheses) node found.noted)
     → IfOk result (IsTried from (then_try tried
     (λ (next : Next). where_shown (ranked kind parts next.state.hypotheses) next)))
@@ -180,11 +181,11 @@ keeping_ranked_call from kind parts tried found node is leads (Err e) same = tt
 pub node_ranked_call : (kind : RankingKind) (parts : RuleParts) (goal : Equation) (node : Node)
     (noted : Bool) →
     IsReached parts goal node
-    → (result : Result Trial NoMemory) → IfOk result
+    → (result : Result (Attempt Node) NoMemory) → IfOk result
     (λ t. t ≡ if_ranked (ranked kind parts node.state.hypotheses) node noted)
-    → IfOk result (λ t. IfSome t.node (IsNode kind parts goal))
+    → IfOk result (λ t. IfSome t.made (IsNode kind parts goal))
 node_ranked_call kind parts goal node noted reached (Ok t) same =
-    subst (λ (t : Trial). IfSome t.node (IsNode kind parts goal)) (sym same)
+    subst (λ (t : Attempt Node). IfSome t.made (IsNode kind parts goal)) (sym same)
     (node_ranked kind parts goal node noted reached)
 node_ranked_call kind parts goal node noted reached (Err e) same = tt
 

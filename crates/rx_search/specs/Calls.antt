@@ -8,7 +8,7 @@ use Rattle.rx_steps.specs.Alone.{alone}
 use Rattle.rx_moves.specs.Moves.{move_of}
 use Rattle.rx_search.specs.NodeNodes as nodes
 use Rattle.rx_search.specs.declared.node.Node.{Node}
-use Rattle.rx_search.specs.declared.node_choices.Trial.{Trial}
+use Rattle.rx_rank.specs.declared.attempt.Attempt.{Attempt}
 use Rattle.rx_search.specs.declared.node_choices.Choices.{Choices}
 use Rattle.rx_deepening.specs.declared.tree.Choice.{Choice}
 
@@ -30,18 +30,18 @@ abbrev pub open_goal : Node → Option Equation
 open_goal node = if node.left == 0 then None else slice_get node.state.goals 0
 
 -- what comes of a step that was taken, or of none
-abbrev pub led : ℕ → Node → Option Step → Bool → State → Trial
-led left from None noted state = record { node = None; noted = noted }
+abbrev pub led : ℕ → Node → Option Step → Bool → State → Attempt Node
+led left from None noted state = record { made = None; noted = noted }
 led left from (Some step) noted state =
-    record { node = Some (with_step left from step state); noted = noted }
+    record { made = Some (with_step left from step state); noted = noted }
 
 -- one more choice
 abbrev pub choice_of : ℕ → Option Node → List (Choice Node)
 choice_of number None = []
 choice_of number (Some node) = record { number = number; node = node } ∷ []
 
-abbrev pub with_choice : Choices → ℕ → Trial → Choices
+abbrev pub with_choice : Choices → ℕ → Attempt Node → Choices
 with_choice found number trial = record {
-  choices = found.choices ++ choice_of number trial.node;
+  choices = found.choices ++ choice_of number trial.made;
   noted = found.noted || trial.noted;
 }

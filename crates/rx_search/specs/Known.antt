@@ -1,7 +1,7 @@
 -- What is known of a goal: what comes of each choice where the goal is alone, before ranks are
 -- found. No choice looks at other goals or at hypotheses, so it is the same at each state that
 -- begins with the goal.
-use Rattle.std.specs.Prelude.{◌≡◌, true, false, All, IfSome, Option, Some, List, [], map, slice_get}
+use Rattle.std.specs.Prelude.{◌≡◌, true, false, All, IfSome, Option, Some, None, List, [], map, slice_get}
 use Rattle.std.specs.Option.{option_map}
 use Rattle.rx_solve.specs.Attempts.{Tried}
 use Rattle.rx_rank.specs.declared.kind.RankingKind.{RankingKind}
@@ -16,8 +16,10 @@ use Rattle.rx_moves.specs.Moves.{move_of}
 use Rattle.rx_moves.specs.Trying.{Next}
 use Rattle.rx_find_lemmas.specs.Lemmas.{step_to}
 use Rattle.rx_find_lemmas.specs.declared.lemma.Lemma.{Lemma}
+use Rattle.rx_search.specs.Calls.{open_goal}
 use Rattle.rx_search.specs.Candidates.{number_of}
 use Rattle.rx_search.specs.declared.candidates.Candidate.{Candidate}
+use Rattle.rx_search.specs.declared.node.Node.{Node}
 use Rattle.rx_search.specs.declared.node_choices.KnownChoice.{KnownChoice}
 use Rattle.rx_settle.specs.Certified.{asks_rows}
 use Rattle.rx_settle.specs.Known.{lifted}
@@ -89,3 +91,16 @@ IsRight parts goal known = AreOf parts goal (attempted_at parts (alone goal) goa
 pub record AreRight (parts : RuleParts) (memo : List (Kept (List KnownChoice))) : Type 0 where
   pub all : (goal : Equation) (known : List KnownChoice) → IsKept memo goal known →
       IsRight parts goal known
+
+-- ---- at a node
+
+-- the choices are known of the goal at which the node has choices
+pub record IsRightFor (parts : RuleParts) (node : Node) (known : List KnownChoice) : Type 0 where
+  pub goal : Equation
+  pub first : open_goal node ≡ Some goal
+  pub right : IsRight parts goal known
+
+-- or it has none
+abbrev pub IsKnownAt : RuleParts → Node → Option (List KnownChoice) → Type 0
+IsKnownAt parts node None = open_goal node ≡ None
+IsKnownAt parts node (Some known) = IsRightFor parts node known

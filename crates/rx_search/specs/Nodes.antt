@@ -21,7 +21,7 @@ use Rattle.rx_search.specs.Calls.{node_of}
 use Rattle.rx_search.specs.NodeNodes.{node_with}
 use Rattle.rx_search.specs.Search.{child}
 use Rattle.rx_search.specs.declared.node.Node.{Node}
-use Rattle.rx_search.specs.declared.node_choices.Trial.{Trial}
+use Rattle.rx_rank.specs.declared.attempt.Attempt.{Attempt}
 use Rattle.rx_search.specs.declared.node_choices.Choices.{Choices}
 use Rattle.rx_deepening.specs.Views.{seen_choice}
 
@@ -44,8 +44,8 @@ module _ (kind : RankingKind) (parts : RuleParts) (goal : Equation) where
 
 module _ (from : Node) where
   -- the node that a choice leads to, and the note, are those of what was tried
-  pub record IsTried (tried : Tried Next) (found : Trial) : Type 0 where
-    pub node : option_map node_of found.node ≡
+  pub record IsTried (tried : Tried Next) (found : Attempt Node) : Type 0 where
+    pub made : option_map node_of found.made ≡
         option_map (node_with most_moves (node_of from)) tried.made
     pub noted : found.noted ≡ tried.noted
 
@@ -63,10 +63,10 @@ KeepsNone (Generalise next subst) = Unit {0}
 KeepsNone _ = ⊥
 
 -- what comes of a choice that leads to the node, by what is found of its hypotheses
-abbrev pub if_ranked : Said → Node → Bool → Trial
-if_ranked Yes node noted = record { node = Some node; noted = noted }
-if_ranked No node noted = record { node = None; noted = noted }
-if_ranked Beyond node noted = record { node = None; noted = true }
+abbrev pub if_ranked : Said → Node → Bool → Attempt Node
+if_ranked Yes node noted = record { made = Some node; noted = noted }
+if_ranked No node noted = record { made = None; noted = noted }
+if_ranked Beyond node noted = record { made = None; noted = true }
 
 -- ---- what is searched
 

@@ -5,7 +5,7 @@ ghost use Rattle.rx_find_lemmas.specs.Finders.{FindsLemmas, IsLemmaFinder};
 ghost use Rattle.rx_find_lemmas.specs.Finding.{lemmas_at};
 ghost use Rattle.rx_fm.specs.declared.fm_end.FmEnd.TheVariants.{Large};
 ghost use Rattle.rx_search.specs.Candidates.{expansions};
-ghost use Rattle.rx_search.specs.Known.{AreOf, AreRight, CanBeTried, IsRight, IsRightChoice, known_lemma, seen_known};
+ghost use Rattle.rx_search.specs.Known.{AreOf, AreRight, CanBeTried, IsKnownAt, IsRight, IsRightChoice, known_lemma, seen_known};
 ghost use Rattle.rx_search.specs.Menu.{Attempted, attempted, attempted_by};
 ghost use Rattle.rx_solve.specs.Answers.{IsSolver};
 ghost use Rattle.rx_solve.specs.Attempts.{beyond};
@@ -14,6 +14,7 @@ ghost use Rattle.rx_term.specs.declared.rule_set.RuleParts.{RuleParts};
 
 use crate::candidates::{Candidate, expansions, number_of};
 use crate::dropping::dropped;
+use crate::node::Node;
 use crate::node_choices::KnownChoice;
 use rx_cert::Cert;
 use rx_find_lemmas::{Lemma, ask_lemmas};
@@ -225,7 +226,7 @@ fn find_alone<
 
 /// What is known of the choices at the goal. Where nothing is kept of it, it is found, and kept if
 /// there is room.
-pub(crate) fn known_choices<
+fn known_choices<
     S: FnMut(&Constraint) -> Result<Option<Cert>, FmEnd>,
     L: FnMut(&Equation, &RuleSet, &mut S) -> Result<Items<Lemma>, FmEnd>,
 >(
@@ -250,4 +251,32 @@ pub(crate) fn known_choices<
     let known = Shared::new(alloc, find_alone(alloc, rules, &goal, solve, lemma)?)?;
     memo.keep(goal, known.try_clone()?)?;
     Ok(known)
+}
+
+/// What is known of the choices at a node; None where there are none, as settling took all steps or
+/// no goal is left.
+pub(crate) fn known_at<
+    S: FnMut(&Constraint) -> Result<Option<Cert>, FmEnd>,
+    L: FnMut(&Equation, &RuleSet, &mut S) -> Result<Items<Lemma>, FmEnd>,
+>(
+    alloc: Global,
+    rules: &RuleSet,
+    node: &Node,
+    memo: &mut ChoiceMemo,
+    solve: &mut S,
+    lemma: &mut L,
+) -> Result<Option<Shared<Items<KnownChoice>>>, NoMemory>
+    requires known { AreRight rules.now memo.old }
+    requires solver { IsSolver S.FnMut solve.old }
+    requires lemma { IsLemmaFinder S.FnMut L.FnMut lemma.old }
+    ensures known { AreRight rules.now memo.new }
+    ensures solver { IsSolver S.FnMut solve.new }
+    ensures lemma { IsLemmaFinder S.FnMut L.FnMut lemma.new }
+    ensures found { IfOk result (IsKnownAt rules.now node.now) }
+{
+    let Some(goal) = node.open_goal()? else {
+        return Ok(None);
+    };
+    let known = known_choices(alloc, rules, memo, goal, solve, lemma)?;
+    Ok(Some(known))
 }

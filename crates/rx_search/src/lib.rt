@@ -19,13 +19,15 @@ mod plans;
 mod search;
 mod search_end;
 mod search_space;
+mod search_task;
 
 pub use beginning::{Beginning, Inside, begin, rule_pairs};
 pub use candidates::Candidate;
 pub use node::{Node, copied_rows, is_closed};
-pub use node_choices::{Choices, KnownChoice, Trial};
+pub use node_choices::{Choices, KnownChoice};
 pub use rx_fm::FmEnd;
 pub use rx_plain::NoMemory;
 pub use search::{MOST_KEPT, Search, log_inside, log_of, search_over, search_with, unranked_end};
 pub use search_end::SearchEnd;
 pub use search_space::SearchSpace;
+pub use search_task::SearchTask;

@@ -7,6 +7,7 @@ use crate::node::Node;
 use rx_deepening::Choice;
 use rx_inference::Step;
 use rx_plain::{Items, NoMemory, Shared};
+use rx_rank::Attempt;
 use rx_steps::State;
 use std::alloc::Global;
 
@@ -23,15 +24,6 @@ pub struct KnownChoice {
     pub noted: bool,
     /// The state after the step; the goal alone, if it doesn't apply.
     pub after: State,
-}
-
-/// What comes of a choice.
-#[derive(Drop)]
-pub struct Trial {
-    /// The node that it leads to, if it applies.
-    pub node: Option<Node>,
-    /// Whether something on the way passed the limits.
-    pub noted: bool,
 }
 
 /// The choices that apply, so far.
@@ -84,7 +76,7 @@ impl KnownChoice {
     /// What comes of the choice at a node that begins with the goal, before ranks are found; the
     /// settling of the node that it leads to may take `left` steps. Fails only where there is no
     /// memory.
-    pub fn lead(&self, alloc: Global, node: &Node, left: u32) -> Result<Trial, NoMemory>
+    pub fn lead(&self, alloc: Global, node: &Node, left: u32) -> Result<Attempt<Node>, NoMemory>
         ensures { IfOk result (λ t. t ≡ led left node.now self.now.step self.now.noted
             (onto node.now.state self.now.after)) }
     {
@@ -92,8 +84,8 @@ impl KnownChoice {
             Some(step) => Some(node.after(alloc, step, &self.after, left)?),
             None => None,
         };
-        Ok(Trial {
-            node: found,
+        Ok(Attempt {
+            made: found,
             noted: self.noted,
         })
     }
@@ -111,12 +103,12 @@ impl Choices {
     }
 
     /// One more, where it applies; fails only where there is no memory.
-    pub fn add(&mut self, number: u8, trial: Trial) -> Result<(), NoMemory>
+    pub fn add(&mut self, number: u8, trial: Attempt<Node>) -> Result<(), NoMemory>
         ensures { OnOk result (self.new ≡ with_choice self.old number trial) }
     {
-        let Trial { node, noted } = trial;
+        let Attempt { made, noted } = trial;
         self.noted = self.noted || noted;
-        match node {
+        match made {
             Some(node) => Ok(self.choices.push(Choice { number, node })?),
             None => Ok(()),
         }

@@ -12,7 +12,7 @@ ghost use Rattle.rx_moves.specs.LoopPoints.{AreLoopPoints};
 ghost use Rattle.rx_deepening.specs.Views.{seen_settled};
 
 use crate::dropping::dropped;
-use crate::known::ChoiceMemo;
+use crate::known::{ChoiceMemo, known_at};
 use crate::menu::find_menu;
 use crate::node::{Node, is_closed};
 use crate::search_space::SearchSpace;
@@ -160,14 +160,21 @@ impl<
     }
 
     fn choices(&mut self, node: &Node) -> Result<Menu<Node, Items<Row>>, NoMemory> {
+        let known = known_at(
+            self.alloc,
+            self.space.rules,
+            node,
+            self.choice_memo,
+            self.solve,
+            self.lemma,
+        )?;
         find_menu(
             self.alloc,
             self.space,
             node,
+            known,
             self.rank_memo,
-            self.choice_memo,
             self.solve,
-            self.lemma,
         )
     }
 }

@@ -34,6 +34,7 @@ use crate::node::{Node, copied_rows};
 use crate::plans::Plans;
 use crate::search_end::SearchEnd;
 use crate::search_space::SearchSpace;
+use crate::search_task::SearchTask;
 use rx_cert::Cert;
 use rx_cover::CoverTree;
 use rx_deepening::{Note, Outcome};
@@ -47,7 +48,6 @@ use rx_inference::Step;
 use rx_log::Log;
 use rx_memo::GoalMemo;
 use rx_moves::LoopPoints;
-use rx_pairs::Listing;
 use rx_plain::{Items, NoMemory, Shared};
 use rx_rank::{PairMemo, RankingKind};
 use rx_row::{Constraint, Row};
@@ -66,37 +66,34 @@ fn visit_plans<
 >(
     alloc: Global,
     space: &SearchSpace<'_>,
-    goal: &Equation,
-    depth: u32,
-    budget: u32,
-    most_kept: usize,
+    task: &SearchTask<'_>,
     rank_memo: &mut RankMemo,
     solve: &mut S,
     lemma: &mut L,
 ) -> Result<Outcome<Node, Items<Row>>, NoMemory>
     requires listed { space.now.listed.now ≡
         listing space.now.rules.now space.now.rules.now.rules }
-    requires fits { IsFitting space.now.rules.now goal.now }
+    requires fits { IsFitting space.now.rules.now task.now.goal.now }
     requires ranked { ranked space.now.kind space.now.rules.now [] ≡ Yes }
     requires solver { IsSolver S.FnMut solve.old }
     requires lemma { IsLemmaFinder S.FnMut L.FnMut lemma.old }
     ensures solver { IsSolver S.FnMut solve.new }
     ensures lemma { IsLemmaFinder S.FnMut L.FnMut lemma.new }
     ensures outcome { IfOk result (λ o. seen_outcome node_of o ≡
-        outcome budget (all_visits (settled space.now.rules.now)
-        (menu space.now.kind space.now.rules.now) depth (start goal.now))) }
+        outcome task.now.budget (all_visits (settled space.now.rules.now)
+        (menu space.now.kind space.now.rules.now) task.now.depth (start task.now.goal.now))) }
     ensures node { IfOk result (λ o.
-        IfClosed (IsNode space.now.kind space.now.rules.now goal.now) o) }
+        IfClosed (IsNode space.now.kind space.now.rules.now task.now.goal.now) o) }
 {
     let _made = space.rules.parts();
     let points = LoopPoints::new(alloc, space.rules)?;
     let mut settle_memo = SettleMemo::new(alloc)?;
     let mut choice_memo = GoalMemo::new(alloc)?;
-    let start = Node::start(alloc, goal, MOST_STEPS)?;
+    let start = Node::start(alloc, task.goal, MOST_STEPS)?;
     let mut plans = Plans {
         alloc,
         space,
-        goal,
+        goal: task.goal,
         points: &points,
         settle_memo: &mut settle_memo,
         choice_memo: &mut choice_memo,
@@ -104,7 +101,13 @@ fn visit_plans<
         solve,
         lemma,
     };
-    rx_deepening::search(alloc, &mut plans, start, depth, budget, most_kept)
+    let SearchTask {
+        depth,
+        budget,
+        most_kept,
+        ..
+    } = task;
+    rx_deepening::search(alloc, &mut plans, start, *depth, *budget, *most_kept)
 }
 
 /// Trees that cover the rules; as the rules are coverable, only running out of memory prevents it.
@@ -206,9 +209,8 @@ pub fn log_of<S: FnMut(&Constraint) -> Result<Option<Cert>, FmEnd>>(
     }
 }
 
-/// Searches for a proof over rules that have ranks, whose pairs are listed: the visits alone, at
-/// most `budget` of them, of nodes with at most `depth` choices on a path, of which at most
-/// `most_kept` are kept from one list of visits to the next. Tests of pairs are kept in the memo.
+/// Searches for a proof over rules that have ranks, whose pairs are listed: the visits alone, as
+/// many as the task allows. Tests of pairs are kept in the memo.
 ///
 /// The answer is a log without domains, which is accepted for the goal and the rules with the
 /// domains that these have; no certificate and no tree in it is deeper than 200, and its rank table
@@ -219,10 +221,7 @@ pub fn search_over<
 >(
     alloc: Global,
     space: &SearchSpace<'_>,
-    goal: &Equation,
-    depth: u32,
-    budget: u32,
-    most_kept: usize,
+    task: &SearchTask<'_>,
     memo: &mut RankMemo,
     solve: &mut S,
     lemma: &mut L,
@@ -230,25 +229,24 @@ pub fn search_over<
     requires ready { IsReady space.now.kind space.now.rules.now }
     requires listed { space.now.listed.now ≡
         listing space.now.rules.now space.now.rules.now.rules }
-    requires fits { IsFitting space.now.rules.now goal.now }
+    requires fits { IsFitting space.now.rules.now task.now.goal.now }
     requires solver { IsSolver S.FnMut solve.old }
     requires lemma { IsLemmaFinder S.FnMut L.FnMut lemma.old }
     ensures solver { IsSolver S.FnMut solve.new }
     ensures lemma { IsLemmaFinder S.FnMut L.FnMut lemma.new }
     ensures steps { IfOk result (λ log.
-        visited space.now.kind space.now.rules.now goal.now depth budget ≡
-        Closed (map move_of log.steps)) }
+        visited space.now.kind space.now.rules.now task.now.goal.now task.now.depth
+        task.now.budget ≡ Closed (map move_of log.steps)) }
     ensures accepted { IfOk result (λ log.
-        verdict_over space.now.rules.now goal.now log ≡ Accepted) }
+        verdict_over space.now.rules.now task.now.goal.now log ≡ Accepted) }
     ensures bare { IfOk result (λ log. log.domains ≡ None) }
     ensures shallow { IfOk result (λ log. is_shallow_log log ≡ true) }
     ensures columns { IfOk result (λ log. HasColumns log.table) }
-    ensures ends { IfErr result (λ e. IsEnd depth budget
-        (visited space.now.kind space.now.rules.now goal.now depth budget) e) }
+    ensures ends { IfErr result (λ e. IsEnd task.now.depth task.now.budget
+        (visited space.now.kind space.now.rules.now task.now.goal.now task.now.depth
+        task.now.budget) e) }
 {
-    let outcome = visit_plans(
-        alloc, space, goal, depth, budget, most_kept, memo, solve, lemma,
-    )?;
+    let outcome = visit_plans(alloc, space, task, memo, solve, lemma)?;
     match outcome {
         Outcome::Closed(node) => {
             let steps = node.steps.as_slice();
@@ -258,8 +256,10 @@ pub fn search_over<
             }
         }
         Outcome::Noted(Note { path, noted }) => Err(SearchEnd::Large { path, rows: noted }),
-        Outcome::Spent => Err(SearchEnd::Spent { visits: budget }),
-        Outcome::Through => Err(SearchEnd::NoPlan { depth }),
+        Outcome::Spent => Err(SearchEnd::Spent {
+            visits: task.budget,
+        }),
+        Outcome::Through => Err(SearchEnd::NoPlan { depth: task.depth }),
     }
 }
 
@@ -323,31 +323,29 @@ fn search_inside<
 >(
     alloc: Global,
     inside: Inside,
-    goal: &Equation,
-    depth: u32,
-    budget: u32,
-    most_kept: usize,
+    task: &SearchTask<'_>,
     memo: &mut RankMemo,
     solve: &mut S,
     lemma: &mut L,
 ) -> Result<Log, SearchEnd>
     requires ready { IsReady inside.kind inside.rules }
     requires listed { inside.listed ≡ listing inside.rules inside.rules.rules }
-    requires fits { IsFitting inside.rules goal.now }
+    requires fits { IsFitting inside.rules task.now.goal.now }
     requires solver { IsSolver S.FnMut solve.old }
     requires lemma { IsLemmaFinder S.FnMut L.FnMut lemma.old }
     ensures solver { IsSolver S.FnMut solve.new }
     ensures lemma { IsLemmaFinder S.FnMut L.FnMut lemma.new }
-    ensures steps { IfOk result (λ log. visited inside.kind inside.rules goal.now depth budget ≡
+    ensures steps { IfOk result (λ log.
+        visited inside.kind inside.rules task.now.goal.now task.now.depth task.now.budget ≡
         Closed (map move_of log.steps)) }
-    ensures accepted { (parts : RuleParts) → IsInside parts goal.now inside →
-        IfOk result (IsAccepted parts goal.now) }
+    ensures accepted { (parts : RuleParts) → IsInside parts task.now.goal.now inside →
+        IfOk result (IsAccepted parts task.now.goal.now) }
     ensures shallow { are_shallow_keeps (Some inside.domains) ≡ true →
         IfOk result (λ log. is_shallow_log log ≡ true) }
     ensures domains { IfOk result (λ log. log.domains ≡ Some inside.domains) }
     ensures columns { IfOk result (λ log. HasColumns log.table) }
-    ensures ends { IfErr result (λ e. IsEnd depth budget
-        (visited inside.kind inside.rules goal.now depth budget) e) }
+    ensures ends { IfErr result (λ e. IsEnd task.now.depth task.now.budget
+        (visited inside.kind inside.rules task.now.goal.now task.now.depth task.now.budget) e) }
 {
     let Inside {
         rules,
@@ -360,65 +358,55 @@ fn search_inside<
         listed,
         kind: *kind,
     };
-    match search_over(
-        alloc, &space, goal, depth, budget, most_kept, memo, solve, lemma,
-    ) {
+    match search_over(alloc, &space, task, memo, solve, lemma) {
         Ok(log) => Ok(log_inside(log, inside)),
         Err(end) => Err(dropped(inside, end)),
     }
 }
 
-/// Searches for a proof as `Search::search` does, with the pairs of the rules, and with a memo of
-/// what was found out of pairs, in which more is kept; at most `most_kept` nodes are kept from one
-/// list of visits to the next.
+/// Searches for a proof as `Search::search` does, with a memo of what was found out of pairs, in
+/// which more is kept.
 pub fn search_with<
     S: FnMut(&Constraint) -> Result<Option<Cert>, FmEnd>,
     L: FnMut(&Equation, &RuleSet, &mut S) -> Result<Items<Lemma>, FmEnd>,
 >(
     alloc: Global,
     rules: &RuleSet,
-    listed: &Listing,
-    goal: &Equation,
-    depth: u32,
-    budget: u32,
-    most_kept: usize,
+    task: &SearchTask<'_>,
     memo: &mut RankMemo,
     solve: &mut S,
     lemma: &mut L,
 ) -> Result<Log, SearchEnd>
     requires coverable { is_coverable rules.now ≡ true }
-    requires listed { listed.now ≡ listing rules.now rules.now.rules }
-    requires fits { IsFitting rules.now goal.now }
+    requires fits { IsFitting rules.now task.now.goal.now }
     requires solver { IsSolver S.FnMut solve.old }
     requires lemma { IsLemmaFinder S.FnMut L.FnMut lemma.old }
     ensures solver { IsSolver S.FnMut solve.new }
     ensures lemma { IsLemmaFinder S.FnMut L.FnMut lemma.new }
-    ensures steps { IfOk result (λ log. searched rules.now goal.now depth budget ≡
+    ensures steps { IfOk result (λ log.
+        searched rules.now task.now.goal.now task.now.depth task.now.budget ≡
         Closed (map move_of log.steps)) }
-    ensures accepted { IfOk result (λ log. IsAccepted rules.now goal.now log) }
+    ensures accepted { IfOk result (λ log. IsAccepted rules.now task.now.goal.now log) }
     ensures domains { IfOk result (λ log.
-        BeginsOver rules.now goal.now (rows_of log.domains)) }
+        BeginsOver rules.now task.now.goal.now (rows_of log.domains)) }
     ensures shallow { IfOk result (λ log. is_shallow_log log ≡ true) }
     ensures columns { IfOk result (λ log. HasColumns log.table) }
-    ensures ends { IfErr result (λ e. IsEnd depth budget
-        (searched rules.now goal.now depth budget) e) }
+    ensures ends { IfErr result (λ e. IsEnd task.now.depth task.now.budget
+        (searched rules.now task.now.goal.now task.now.depth task.now.budget) e) }
 {
-    let begun = begin(alloc, rules, listed, goal, memo, solve)?;
+    let listed = rule_pairs(alloc, rules)?;
+    let begun = begin(alloc, rules, &listed, task.goal, memo, solve)?;
     match begun {
         Beginning::Bare => {
             let space = SearchSpace {
                 rules,
-                listed,
+                listed: &listed,
                 kind: RankingKind::Plain,
             };
-            search_over(
-                alloc, &space, goal, depth, budget, most_kept, memo, solve, lemma,
-            )
+            search_over(alloc, &space, task, memo, solve, lemma)
         }
-        Beginning::Inside(inside) => search_inside(
-            alloc, inside, goal, depth, budget, most_kept, memo, solve, lemma,
-        ),
-        Beginning::Unranked { noted } => Err(unranked_end(alloc, noted, goal)),
+        Beginning::Inside(inside) => search_inside(alloc, inside, task, memo, solve, lemma),
+        Beginning::Unranked { noted } => Err(unranked_end(alloc, noted, task.goal)),
     }
 }
 
@@ -506,16 +494,16 @@ impl<
             (searched rules.now goal.now depth budget) e) }
     {
         let mut memo = RankMemo::new(alloc);
-        let most_kept = self.most_kept;
-        let listed = rule_pairs(alloc, rules)?;
-        search_with(
-            alloc,
-            rules,
-            &listed,
+        let task = SearchTask {
             goal,
             depth,
             budget,
-            most_kept,
+            most_kept: self.most_kept,
+        };
+        search_with(
+            alloc,
+            rules,
+            &task,
             &mut memo,
             &mut self.solve,
             &mut self.lemma,

@@ -18,6 +18,7 @@ use crate::node::steps_after;
 use crate::opening::{Begun, Setting};
 use crate::ranks::is_ranked;
 use crate::tail_calls::TailCall;
+use crate::target::Target;
 use crate::trying::try_steps;
 use rx_cert::Cert;
 use rx_fm::FmEnd;
@@ -197,30 +198,34 @@ fn join(
 
 /// The opening with the lemma, where that is shown.
 fn show_lemma<S: FnMut(&Constraint) -> Result<Option<Cert>, FmEnd>>(
-    setting: &Setting<'_>,
+    target: &Target<'_>,
     begun: &Begun,
-    goal: &Equation,
     lemma: &Equation,
     ranks: &mut RankMemo,
     memo: &mut SettleMemo,
     solve: &mut S,
 ) -> Result<Option<Begun>, NoMemory>
     requires begun { (from : Equation) ×
-        IsBegun setting.now.kind setting.now.rules.now from goal.now begun.now }
-    requires points { AreLoopPoints setting.now.rules.now setting.now.points.now }
-    requires pairs { setting.now.pairs.now ≡
-        listing setting.now.rules.now setting.now.rules.now.rules }
-    requires known { AreKnown setting.now.rules.now memo.old }
+        IsBegun target.now.setting.now.kind target.now.setting.now.rules.now from
+        target.now.goal.now begun.now }
+    requires points { AreLoopPoints target.now.setting.now.rules.now
+        target.now.setting.now.points.now }
+    requires pairs { target.now.setting.now.pairs.now ≡
+        listing target.now.setting.now.rules.now target.now.setting.now.rules.now.rules }
+    requires known { AreKnown target.now.setting.now.rules.now memo.old }
     requires solver { IsSolver S.FnMut solve.old }
-    ensures known { AreKnown setting.now.rules.now memo.new }
+    ensures known { AreKnown target.now.setting.now.rules.now memo.new }
     ensures solver { IsSolver S.FnMut solve.new }
     ensures shown { IfOk result (λ o. option_map opening_of o ≡
-        spec.shown setting.now.kind setting.now.rules.now goal.now
+        spec.shown target.now.setting.now.kind target.now.setting.now.rules.now target.now.goal.now
         (opening_of begun.now) lemma.now) }
     ensures begun { (from : Equation) →
-        IsBegun setting.now.kind setting.now.rules.now from goal.now begun.now →
-        IfOk result (λ o. IfSome o (IsBegun setting.now.kind setting.now.rules.now from goal.now)) }
+        IsBegun target.now.setting.now.kind target.now.setting.now.rules.now from
+        target.now.goal.now begun.now →
+        IfOk result (λ o. IfSome o (IsBegun target.now.setting.now.kind
+        target.now.setting.now.rules.now from target.now.goal.now)) }
 {
+    let setting = target.setting;
     let Some(posed) = pose(setting, begun, lemma, solve)? else {
         return Ok(None);
     };
@@ -231,39 +236,43 @@ fn show_lemma<S: FnMut(&Constraint) -> Result<Option<Cert>, FmEnd>>(
     let Some(settled) = settle_lemma(setting, state, memo, solve)? else {
         return Ok(None);
     };
-    let next = join(setting.alloc, begun, goal, posed, steps, settled)?;
+    let next = join(setting.alloc, begun, target.goal, posed, steps, settled)?;
     Ok(Some(next))
 }
 
 /// The opening with the lemma inside the domains, where that is shown; it isn't where one of its rows
 /// passes the limits.
 fn show_inside<S: FnMut(&Constraint) -> Result<Option<Cert>, FmEnd>>(
-    setting: &Setting<'_>,
+    target: &Target<'_>,
     begun: &Begun,
-    goal: &Equation,
     lemma: &Equation,
     ranks: &mut RankMemo,
     memo: &mut SettleMemo,
     solve: &mut S,
 ) -> Result<Option<Begun>, NoMemory>
     requires begun { (from : Equation) ×
-        IsBegun setting.now.kind setting.now.rules.now from goal.now begun.now }
-    requires points { AreLoopPoints setting.now.rules.now setting.now.points.now }
-    requires pairs { setting.now.pairs.now ≡
-        listing setting.now.rules.now setting.now.rules.now.rules }
-    requires known { AreKnown setting.now.rules.now memo.old }
+        IsBegun target.now.setting.now.kind target.now.setting.now.rules.now from
+        target.now.goal.now begun.now }
+    requires points { AreLoopPoints target.now.setting.now.rules.now
+        target.now.setting.now.points.now }
+    requires pairs { target.now.setting.now.pairs.now ≡
+        listing target.now.setting.now.rules.now target.now.setting.now.rules.now.rules }
+    requires known { AreKnown target.now.setting.now.rules.now memo.old }
     requires solver { IsSolver S.FnMut solve.old }
-    ensures known { AreKnown setting.now.rules.now memo.new }
+    ensures known { AreKnown target.now.setting.now.rules.now memo.new }
     ensures solver { IsSolver S.FnMut solve.new }
     ensures shown { IfOk result (λ o. option_map opening_of o ≡
-        spec.shown_within setting.now.kind setting.now.rules.now goal.now (opening_of begun.now)
-        (spec.inside_lemma setting.now.rules.now lemma.now)) }
+        spec.shown_within target.now.setting.now.kind target.now.setting.now.rules.now
+        target.now.goal.now (opening_of begun.now)
+        (spec.inside_lemma target.now.setting.now.rules.now lemma.now)) }
     ensures begun { (from : Equation) →
-        IsBegun setting.now.kind setting.now.rules.now from goal.now begun.now →
-        IfOk result (λ o. IfSome o (IsBegun setting.now.kind setting.now.rules.now from goal.now)) }
+        IsBegun target.now.setting.now.kind target.now.setting.now.rules.now from
+        target.now.goal.now begun.now →
+        IfOk result (λ o. IfSome o (IsBegun target.now.setting.now.kind
+        target.now.setting.now.rules.now from target.now.goal.now)) }
 {
-    match inside_lemma(setting.alloc, setting.rules, lemma) {
-        Ok(inside) => show_lemma(setting, begun, goal, &inside, ranks, memo, solve),
+    match inside_lemma(target.setting.alloc, target.setting.rules, lemma) {
+        Ok(inside) => show_lemma(target, begun, &inside, ranks, memo, solve),
         Err(PolyEnd::Large) => Ok(None),
         Err(PolyEnd::NoMemory) => Err(NoMemory),
     }
@@ -271,31 +280,35 @@ fn show_inside<S: FnMut(&Constraint) -> Result<Option<Cert>, FmEnd>>(
 
 /// The opening with the lemma, or as it was.
 fn with_lemma<S: FnMut(&Constraint) -> Result<Option<Cert>, FmEnd>>(
-    setting: &Setting<'_>,
+    target: &Target<'_>,
     begun: Begun,
-    goal: &Equation,
     tail: &TailCall,
     ranks: &mut RankMemo,
     memo: &mut SettleMemo,
     solve: &mut S,
 ) -> Result<Begun, NoMemory>
     requires begun { (from : Equation) ×
-        IsBegun setting.now.kind setting.now.rules.now from goal.now begun }
-    requires points { AreLoopPoints setting.now.rules.now setting.now.points.now }
-    requires pairs { setting.now.pairs.now ≡
-        listing setting.now.rules.now setting.now.rules.now.rules }
-    requires known { AreKnown setting.now.rules.now memo.old }
+        IsBegun target.now.setting.now.kind target.now.setting.now.rules.now from
+        target.now.goal.now begun }
+    requires points { AreLoopPoints target.now.setting.now.rules.now
+        target.now.setting.now.points.now }
+    requires pairs { target.now.setting.now.pairs.now ≡
+        listing target.now.setting.now.rules.now target.now.setting.now.rules.now.rules }
+    requires known { AreKnown target.now.setting.now.rules.now memo.old }
     requires solver { IsSolver S.FnMut solve.old }
-    ensures known { AreKnown setting.now.rules.now memo.new }
+    ensures known { AreKnown target.now.setting.now.rules.now memo.new }
     ensures solver { IsSolver S.FnMut solve.new }
     ensures opening { IfOk result (λ b. opening_of b ≡
-        spec.with_lemma setting.now.kind setting.now.rules.now goal.now
+        spec.with_lemma target.now.setting.now.kind target.now.setting.now.rules.now
+        target.now.goal.now
         (opening_of begun) tail.now) }
     ensures begun { (from : Equation) →
-        IsBegun setting.now.kind setting.now.rules.now from goal.now begun →
-        IfOk result (IsBegun setting.now.kind setting.now.rules.now from goal.now) }
+        IsBegun target.now.setting.now.kind target.now.setting.now.rules.now from
+        target.now.goal.now begun →
+        IfOk result (IsBegun target.now.setting.now.kind target.now.setting.now.rules.now from
+        target.now.goal.now) }
 {
-    match show_inside(setting, &begun, goal, &tail.lemma, ranks, memo, solve) {
+    match show_inside(target, &begun, &tail.lemma, ranks, memo, solve) {
         Ok(Some(next)) => Ok(dropped(begun, next)),
         Ok(None) => Ok(begun),
         Err(NoMemory) => Err(dropped(begun, NoMemory)),
@@ -304,33 +317,37 @@ fn with_lemma<S: FnMut(&Constraint) -> Result<Option<Cert>, FmEnd>>(
 
 /// The opening with the lemmas on these tail calls, as far as each of them is shown.
 pub(crate) fn with_lemmas<S: FnMut(&Constraint) -> Result<Option<Cert>, FmEnd>>(
-    setting: &Setting<'_>,
+    target: &Target<'_>,
     begun: Begun,
-    goal: &Equation,
     tails: &[TailCall],
     ranks: &mut RankMemo,
     memo: &mut SettleMemo,
     solve: &mut S,
 ) -> Result<Begun, NoMemory>
     requires begun { (from : Equation) ×
-        IsBegun setting.now.kind setting.now.rules.now from goal.now begun }
-    requires points { AreLoopPoints setting.now.rules.now setting.now.points.now }
-    requires pairs { setting.now.pairs.now ≡
-        listing setting.now.rules.now setting.now.rules.now.rules }
-    requires known { AreKnown setting.now.rules.now memo.old }
+        IsBegun target.now.setting.now.kind target.now.setting.now.rules.now from
+        target.now.goal.now begun }
+    requires points { AreLoopPoints target.now.setting.now.rules.now
+        target.now.setting.now.points.now }
+    requires pairs { target.now.setting.now.pairs.now ≡
+        listing target.now.setting.now.rules.now target.now.setting.now.rules.now.rules }
+    requires known { AreKnown target.now.setting.now.rules.now memo.old }
     requires solver { IsSolver S.FnMut solve.old }
-    ensures known { AreKnown setting.now.rules.now memo.new }
+    ensures known { AreKnown target.now.setting.now.rules.now memo.new }
     ensures solver { IsSolver S.FnMut solve.new }
     ensures opening { IfOk result (λ b. opening_of b ≡
-        fold (spec.with_lemma setting.now.kind setting.now.rules.now goal.now)
+        fold (spec.with_lemma target.now.setting.now.kind target.now.setting.now.rules.now
+        target.now.goal.now)
         (opening_of begun) tails.now) }
     ensures begun { (from : Equation) →
-        IsBegun setting.now.kind setting.now.rules.now from goal.now begun →
-        IfOk result (IsBegun setting.now.kind setting.now.rules.now from goal.now) }
+        IsBegun target.now.setting.now.kind target.now.setting.now.rules.now from
+        target.now.goal.now begun →
+        IfOk result (IsBegun target.now.setting.now.kind target.now.setting.now.rules.now from
+        target.now.goal.now) }
 {
     let mut begun = begun;
     for tail in tails {
-        begun = with_lemma(setting, begun, goal, tail, ranks, memo, solve)?;
+        begun = with_lemma(target, begun, tail, ranks, memo, solve)?;
     }
     Ok(begun)
 }

@@ -20,6 +20,7 @@ mod opening;
 mod ranks;
 mod search;
 mod tail_calls;
+mod target;
 mod tree;
 mod trying;
 

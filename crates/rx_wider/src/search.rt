@@ -20,6 +20,7 @@ use crate::lemmas::with_lemmas;
 use crate::node::Node;
 use crate::opening::{Begun, Setting};
 use crate::tail_calls::tail_calls;
+use crate::target::Target;
 use crate::tree::WideTree;
 use crate::trying::try_steps;
 use rx_cert::Cert;
@@ -62,28 +63,32 @@ fn closed_node(outcome: Outcome<Node, ()>) -> Option<Node>
 
 /// What the visits from the start node come to, where these lemmas stand before all.
 fn visit_tree<S: FnMut(&Constraint) -> Result<Option<Cert>, FmEnd>>(
-    setting: &Setting<'_>,
-    from: &Equation,
+    target: &Target<'_>,
     tails: &[Rule],
     start: Node,
     reach: Reach,
     ranks: &mut RankMemo,
     solve: &mut S,
 ) -> Result<Outcome<Node, ()>, NoMemory>
-    requires start { IsNode setting.now.kind setting.now.rules.now from.now start }
-    requires points { AreLoopPoints setting.now.rules.now setting.now.points.now }
-    requires pairs { setting.now.pairs.now ≡
-        listing setting.now.rules.now setting.now.rules.now.rules }
+    requires start { IsNode target.now.setting.now.kind target.now.setting.now.rules.now
+        target.now.goal.now start }
+    requires points { AreLoopPoints target.now.setting.now.rules.now
+        target.now.setting.now.points.now }
+    requires pairs { target.now.setting.now.pairs.now ≡
+        listing target.now.setting.now.rules.now target.now.setting.now.rules.now.rules }
     requires solver { IsSolver S.FnMut solve.old }
     ensures solver { IsSolver S.FnMut solve.new }
     ensures outcome { IfOk result (λ o. seen_outcome node_of o ≡
         outcome (min reach.budget spec.most_visits)
-        (all_visits (spec.settled setting.now.rules.now)
-        (spec.menu setting.now.kind setting.now.rules.now tails.now) reach.depth
+        (all_visits (spec.settled target.now.setting.now.rules.now)
+        (spec.menu target.now.setting.now.kind target.now.setting.now.rules.now tails.now)
+        reach.depth
         (node_of start))) }
     ensures node { IfOk result (λ o.
-        IfClosed (IsNode setting.now.kind setting.now.rules.now from.now) o) }
+        IfClosed (IsNode target.now.setting.now.kind target.now.setting.now.rules.now
+        target.now.goal.now) o) }
 {
+    let setting = target.setting;
     let alloc = setting.alloc;
     let mut memo = SettleMemo::new(alloc)?;
     let mut known = GoalMemo::new(alloc)?;
@@ -94,7 +99,7 @@ fn visit_tree<S: FnMut(&Constraint) -> Result<Option<Cert>, FmEnd>>(
         solve,
     };
     let mut tree = WideTree {
-        goal: from,
+        goal: target.goal,
         ranks,
         known: &mut known,
         explorer,
@@ -132,51 +137,43 @@ fn visit_behind<S: FnMut(&Constraint) -> Result<Option<Cert>, FmEnd>>(
     let alloc = setting.alloc;
     let lemmas = begun.state.try_clone(alloc)?;
     let start = begun.into_node(alloc)?;
-    let outcome = visit_tree(
+    let target = Target {
         setting,
-        from,
-        lemmas.hypotheses(),
-        start,
-        reach,
-        ranks,
-        solve,
-    )?;
+        goal: from,
+    };
+    let outcome = visit_tree(&target, lemmas.hypotheses(), start, reach, ranks, solve)?;
     Ok(closed_node(outcome))
 }
 
 /// The first closed node among the visits from the goal alone, behind the lemmas on tail calls.
 fn visit_from<S: FnMut(&Constraint) -> Result<Option<Cert>, FmEnd>>(
-    setting: &Setting<'_>,
+    target: &Target<'_>,
     from: &Equation,
-    goal: &Equation,
     begun: Begun,
     reach: Reach,
     ranks: &mut RankMemo,
     solve: &mut S,
 ) -> Result<Option<Node>, NoMemory>
-    requires begun { IsBegun setting.now.kind setting.now.rules.now from.now goal.now begun }
-    requires points { AreLoopPoints setting.now.rules.now setting.now.points.now }
-    requires pairs { setting.now.pairs.now ≡
-        listing setting.now.rules.now setting.now.rules.now.rules }
+    requires begun { IsBegun target.now.setting.now.kind target.now.setting.now.rules.now from.now
+        target.now.goal.now begun }
+    requires points { AreLoopPoints target.now.setting.now.rules.now
+        target.now.setting.now.points.now }
+    requires pairs { target.now.setting.now.pairs.now ≡
+        listing target.now.setting.now.rules.now target.now.setting.now.rules.now.rules }
     requires solver { IsSolver S.FnMut solve.old }
     ensures solver { IsSolver S.FnMut solve.new }
     ensures found { IfOk result (λ o. option_map moves_of o ≡
-        spec.found_from setting.now.kind setting.now.rules.now reach.depth reach.budget goal.now
+        spec.found_from target.now.setting.now.kind target.now.setting.now.rules.now reach.depth
+        reach.budget target.now.goal.now
         (opening_of begun)) }
     ensures closed { IfOk result (λ o.
-        IfSome o (IsClosedNode setting.now.kind setting.now.rules.now from.now)) }
+        IfSome o (IsClosedNode target.now.setting.now.kind target.now.setting.now.rules.now
+        from.now)) }
 {
+    let setting = target.setting;
     let tails = tail_calls(setting.alloc, setting.rules, setting.points.loops())?;
     let mut memo = SettleMemo::new(setting.alloc)?;
-    let opened = with_lemmas(
-        setting,
-        begun,
-        goal,
-        tails.as_slice(),
-        ranks,
-        &mut memo,
-        solve,
-    )?;
+    let opened = with_lemmas(target, begun, tails.as_slice(), ranks, &mut memo, solve)?;
     visit_behind(setting, from, opened, reach, ranks, solve)
 }
 
@@ -282,7 +279,10 @@ fn visit_bare<S: FnMut(&Constraint) -> Result<Option<Cert>, FmEnd>>(
 {
     let to = bare(setting.alloc, goal)?;
     match begin_bare(setting, goal, &to, solve)? {
-        Some(begun) => visit_from(setting, goal, &to, begun, reach, ranks, solve),
+        Some(begun) => {
+            let target = Target { setting, goal: &to };
+            visit_from(&target, goal, begun, reach, ranks, solve)
+        }
         None => Ok(None),
     }
 }
@@ -307,7 +307,8 @@ fn visit_both<S: FnMut(&Constraint) -> Result<Option<Cert>, FmEnd>>(
         IfSome o (IsClosedNode setting.now.kind setting.now.rules.now goal.now)) }
 {
     let begun = Begun::new(setting.alloc, goal)?;
-    if let Some(node) = visit_from(setting, goal, goal, begun, reach, ranks, solve)? {
+    let target = Target { setting, goal };
+    if let Some(node) = visit_from(&target, goal, begun, reach, ranks, solve)? {
         return Ok(Some(node));
     }
     if goal.rows.rows().is_empty() {

@@ -26,7 +26,7 @@ where_ranked-requires-clause-roots g c =
     let a = c.args in
     let (goal, reached) = c.requires.reached in
     reached_rooted s.rules.now goal c.in-Some.next.steps c.in-Some.next.state
-    (led_to c.in_ok-trial.trial.node c.in-Some.next (IsReached s.rules.now goal) c.in-Some.is
+    (led_to c.in_ok-trial.trial.made c.in-Some.next (IsReached s.rules.now goal) c.in-Some.is
     (known_reached s.kind s.rules.now a.node.now a.known.now c.requires.right c.in_ok-trial.trial
     c.in_ok-trial.ensures goal reached))
 
@@ -36,7 +36,7 @@ where_ranked-requires-clause-fits g c =
     let a = c.args in
     let (goal, reached) = c.requires.reached in
     reached_fits s.rules.now goal c.in-Some.next.steps c.in-Some.next.state
-    (led_to c.in_ok-trial.trial.node c.in-Some.next (IsReached s.rules.now goal) c.in-Some.is
+    (led_to c.in_ok-trial.trial.made c.in-Some.next (IsReached s.rules.now goal) c.in-Some.is
     (known_reached s.kind s.rules.now a.node.now a.known.now c.requires.right c.in_ok-trial.trial
     c.in_ok-trial.ensures goal reached))
 
@@ -53,7 +53,7 @@ returns-in-Some-clause-nodes g c = λ goal node.
     let s = c.args.space.now in
     let a = c.args in
     node_ranked_call s.kind s.rules.now goal c.in-Some.next c.in_ok-trial.trial.noted
-    (led_to c.in_ok-trial.trial.node c.in-Some.next (IsReached s.rules.now goal) c.in-Some.is
+    (led_to c.in_ok-trial.trial.made c.in-Some.next (IsReached s.rules.now goal) c.in-Some.is
     (known_reached s.kind s.rules.now a.node.now a.known.now c.requires.right c.in_ok-trial.trial
     c.in_ok-trial.ensures goal node.reached))
     c.where_ranked.result c.where_ranked.ensures.ranked

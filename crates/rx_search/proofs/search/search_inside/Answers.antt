@@ -14,7 +14,7 @@ returns-in-Ok-clause-steps g c =
 
 pub returns-in-Ok-clause-accepted : goal.returns-in-Ok-clause-accepted
 returns-in-Ok-clause-accepted g c = λ parts is.
-    c.log_inside.ensures.accepted parts c.args.goal.now is c.in-Ok.ensures.accepted
+    c.log_inside.ensures.accepted parts c.args.task.now.goal.now is c.in-Ok.ensures.accepted
 
 pub returns-in-Ok-clause-shallow : goal.returns-in-Ok-clause-shallow
 returns-in-Ok-clause-shallow g c = λ keeps.
@@ -30,6 +30,7 @@ returns-in-Ok-clause-columns g c =
 
 pub returns-in-Err-clause-ends : goal.returns-in-Err-clause-ends
 returns-in-Err-clause-ends g c =
-    subst (IsEnd c.args.depth c.args.budget
-    (visited c.args.inside.kind c.args.inside.rules c.args.goal.now c.args.depth c.args.budget))
+    let task = c.args.task.now in
+    subst (IsEnd task.depth task.budget
+    (visited c.args.inside.kind c.args.inside.rules task.goal.now task.depth task.budget))
     (sym c.dropped.ensures) c.in-Err.ensures.ends

@@ -10,13 +10,14 @@ use Rattle.rx_search.proofs.search.search_over.Goals as goal
 
 pub log_of-requires-clause-proved : goal.log_of-requires-clause-proved
 log_of-requires-clause-proved g c =
-    let s = c.args.space.now in (
-      c.args.goal.now,
-      node_proved s.kind s.rules.now c.args.goal.now c.in-Closed.node c.as_slice-steps.result.now
+    let s = c.args.space.now in
+    let task = c.args.task.now in (
+      task.goal.now,
+      node_proved s.kind s.rules.now task.goal.now c.in-Closed.node c.as_slice-steps.result.now
           c.hypotheses.result.now
-          (closed_node (IsNode s.kind s.rules.now c.args.goal.now) c.in_ok-outcome.outcome
+          (closed_node (IsNode s.kind s.rules.now task.goal.now) c.in_ok-outcome.outcome
           c.in-Closed.node c.in-Closed.is c.in_ok-outcome.ensures.node)
-          (closed_goals s.kind s.rules.now c.args.depth c.args.budget (start c.args.goal.now)
+          (closed_goals s.kind s.rules.now task.depth task.budget (start task.goal.now)
           c.in_ok-outcome.outcome c.in-Closed.node c.in_ok-outcome.ensures.outcome c.in-Closed.is)
           c.as_slice-steps.ensures c.hypotheses.ensures,
     )
@@ -24,7 +25,8 @@ log_of-requires-clause-proved g c =
 pub returns-in-Ok-clause-steps : goal.returns-in-Ok-clause-steps
 returns-in-Ok-clause-steps g c =
     let s = c.args.space.now in
-    closed_steps s.kind s.rules.now c.args.depth c.args.budget (start c.args.goal.now)
+    let task = c.args.task.now in
+    closed_steps s.kind s.rules.now task.depth task.budget (start task.goal.now)
     c.in_ok-outcome.outcome c.in-Closed.node c.dropped.result.steps
     c.in_ok-outcome.ensures.outcome c.in-Closed.is
     (ap (λ (log : Log). log.steps) c.dropped.ensures ∙ c.in-Ok.ensures.steps ∙
@@ -33,14 +35,15 @@ returns-in-Ok-clause-steps g c =
 pub returns-in-Ok-clause-accepted : goal.returns-in-Ok-clause-accepted
 returns-in-Ok-clause-accepted g c =
     let s = c.args.space.now in
-    subst (λ (log : Log). verdict_over s.rules.now c.args.goal.now log ≡ Accepted)
+    let task = c.args.task.now in
+    subst (λ (log : Log). verdict_over s.rules.now task.goal.now log ≡ Accepted)
     (sym c.dropped.ensures)
-    (c.in-Ok.ensures.accepted c.args.goal.now
-    (node_proved s.kind s.rules.now c.args.goal.now c.in-Closed.node c.as_slice-steps.result.now
+    (c.in-Ok.ensures.accepted task.goal.now
+    (node_proved s.kind s.rules.now task.goal.now c.in-Closed.node c.as_slice-steps.result.now
     c.hypotheses.result.now
-    (closed_node (IsNode s.kind s.rules.now c.args.goal.now) c.in_ok-outcome.outcome
+    (closed_node (IsNode s.kind s.rules.now task.goal.now) c.in_ok-outcome.outcome
     c.in-Closed.node c.in-Closed.is c.in_ok-outcome.ensures.node)
-    (closed_goals s.kind s.rules.now c.args.depth c.args.budget (start c.args.goal.now)
+    (closed_goals s.kind s.rules.now task.depth task.budget (start task.goal.now)
     c.in_ok-outcome.outcome c.in-Closed.node c.in_ok-outcome.ensures.outcome c.in-Closed.is)
     c.as_slice-steps.ensures c.hypotheses.ensures))
 

@@ -17,5 +17,6 @@ search-requires-clause-ready g c =
 pub search-requires-clause-valid : goal.search-requires-clause-valid
 search-requires-clause-valid g c =
     let s = c.args.space.now in
-    start_is s.kind s.rules.now c.args.goal.now c.in_ok-start.start c.parts-made.ensures.made
+    let goal = c.args.task.now.goal.now in
+    start_is s.kind s.rules.now goal c.in_ok-start.start c.parts-made.ensures.made
     c.requires.fits c.requires.ranked c.in_ok-start.ensures.node

@@ -12,7 +12,7 @@ with_lemma-requires-clause-begun g c =
 pub loop-tail-preserved : goal.loop-tail-preserved
 loop-tail-preserved g c =
     let a = c.args in
-    let f = with_lemma a.setting.now.kind a.setting.now.rules.now a.goal.now in
+    let f = with_lemma a.target.now.setting.now.kind a.target.now.setting.now.rules.now a.target.now.goal.now in
     record {
       known = c.in_ok-begun.ensures.known;
       solver = c.in_ok-begun.ensures.solver;

@@ -11,12 +11,12 @@ use Rattle.rx_wider.proofs.lemmas.with_lemmas.Given as goal
 
 abbrev pub invariant-loop-tail : goal.invariant-loop-tail
 invariant-loop-tail g l = record {
-  known : AreKnown l.setting.rules.now l.memo;
+  known : AreKnown l.target.setting.now.rules.now l.memo;
   solver : IsSolver g.S.FnMut l.solve;
   opening :
       opening_of l.begun ≡
-      fold (with_lemma l.setting.kind l.setting.rules.now l.goal) (opening_of l.fn.begun)
+      fold (with_lemma l.target.setting.now.kind l.target.setting.now.rules.now l.target.goal.now) (opening_of l.fn.begun)
       (take l.tail-index l.tails);
-  begun : (from : Equation) → IsBegun l.setting.kind l.setting.rules.now from l.goal l.fn.begun →
-      IsBegun l.setting.kind l.setting.rules.now from l.goal l.begun;
+  begun : (from : Equation) → IsBegun l.target.setting.now.kind l.target.setting.now.rules.now from l.target.goal.now l.fn.begun →
+      IsBegun l.target.setting.now.kind l.target.setting.now.rules.now from l.target.goal.now l.begun;
 }

@@ -9,15 +9,15 @@ use Rattle.rx_wider.proofs.search.visit_from.Goals as goal
 
 pub visit_behind-requires-clause-begun : goal.visit_behind-requires-clause-begun
 visit_behind-requires-clause-begun g c = (
-  c.args.goal.now,
+  c.args.target.now.goal.now,
   c.in_ok-opened.ensures.begun c.args.from.now c.requires.begun,
 )
 
 pub returns-clause-found : goal.returns-clause-found
 returns-clause-found g c =
-    let kind = c.args.setting.now.kind in
-    let parts = c.args.setting.now.rules.now in
-    let goal = c.args.goal.now in
+    let kind = c.args.target.now.setting.now.kind in
+    let parts = c.args.target.now.setting.now.rules.now in
+    let goal = c.args.target.now.goal.now in
     subst (λ (opening : Opening). IfOk c.visit_behind.result (λ o. option_map moves_of o ≡
     spec.found_behind kind parts c.args.reach.depth c.args.reach.budget opening goal))
     (c.in_ok-opened.ensures.opening
