@@ -8,6 +8,7 @@ pub mod Gathering
 pub mod LentPairs
 pub mod MemoLaws
 pub mod NameLaws
+pub mod NumberLaws
 pub mod OwnCandidates
 pub mod OwnRows
 pub mod OwnValues

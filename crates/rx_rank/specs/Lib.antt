@@ -5,6 +5,7 @@ pub mod Candidates
 pub mod Choices
 pub mod Components
 pub mod Memo
+pub mod Numbers
 pub mod PairTests
 pub mod Ranking
 pub mod Tries

@@ -194,7 +194,7 @@ fn first_serving<S: FnMut(&Constraint) -> Result<Option<Cert>, FmEnd>>(
 }
 
 /// Whether the symbol is the one that is raised, if one is.
-fn is_raised(raised: Option<u32>, symbol: u32) -> bool
+pub(crate) fn is_raised(raised: Option<u32>, symbol: u32) -> bool
     ensures { result ≡ is_raised raised symbol }
 {
     match raised {

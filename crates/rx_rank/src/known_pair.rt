@@ -18,7 +18,7 @@ use rx_cert::{Cert, copied_certs};
 use rx_fm::FmEnd;
 use rx_pairs::Pair;
 use rx_plain::NoMemory;
-use rx_poly::{Poly, copied_polys, digest_with};
+use rx_poly::{Atom, Mono, Poly, copied_polys};
 use rx_row::Constraint;
 use rx_solve::AllShown;
 use std::alloc::Global;
@@ -26,7 +26,7 @@ use std::marker::Model;
 
 /// How many answers are kept of a pair at most, and how many polynomials that its left symbol
 /// takes.
-const MOST_ANSWERS: usize = 1024;
+const MOST_ANSWERS: usize = 256;
 
 /// What is asked of a pair.
 #[derive(Clone, Copy, PartialEq, Eq)]
@@ -82,7 +82,7 @@ pub(crate) struct KnownTaking {
     pub(crate) before: Option<u32>,
 }
 
-/// A pair with the answers that are kept of it, the first 1,024, and as many polynomials that its
+/// A pair with the answers that are kept of it, the first 256, and as many polynomials that its
 /// left symbol takes; contracts see the pair.
 #[derive(Drop)]
 pub(crate) struct KnownPair {
@@ -147,9 +147,34 @@ fn finding_of(answer: &AllShown) -> Finding
     }
 }
 
-/// One number made of a digest.
-fn folded(digest: u128) -> u32 {
-    ((digest >> 32) & 0xffff_ffff) as u32
+/// What was there, and then the next number: one number made of both.
+fn mixed(before: u32, next: u32) -> u32 {
+    before.wrapping_mul(0x9e37_79b1).wrapping_add(next)
+}
+
+/// The lowest bits of a number.
+fn lowest(number: i128) -> u32 {
+    (number.cast_unsigned() & 0xffff_ffff) as u32
+}
+
+/// One number made of a term: of its coefficient and of the kind of its first atom, or its variable.
+fn sketch_of_term(term: &(Mono, i128)) -> u32 {
+    let coefficient = lowest(term.1);
+    match term.0.atoms.as_slice().first() {
+        Some(Atom::Var(at)) => mixed(coefficient, at.wrapping_add(1)),
+        Some(Atom::Div(_, _)) => mixed(coefficient, 77),
+        Some(Atom::Mod(_, _)) => mixed(coefficient, 99),
+        None => coefficient,
+    }
+}
+
+/// One number made of a polynomial, cheaper than its digest: for looking it up.
+fn sketch(poly: &Poly) -> u32 {
+    let mut number = 0;
+    for term in poly.body().terms.as_slice() {
+        number = mixed(number, sketch_of_term(term));
+    }
+    number
 }
 
 /// The test by these polynomials.
@@ -162,12 +187,12 @@ fn test_by<'a>(test: PairTest, left: &'a Poly, right: &'a Poly) -> Question<'a>
         PairTest::Holds => 0,
         PairTest::Falls => 1,
     };
-    let digest = digest_with(digest_with(number, left.digest()), right.digest());
+    let hash = mixed(mixed(number, sketch(left)), sketch(right));
     Question {
         test,
         left,
         right,
-        hash: folded(digest),
+        hash,
     }
 }
 
@@ -299,7 +324,7 @@ fn recall_finding<S: FnMut(&Constraint) -> Result<Option<Cert>, FmEnd>>(
 /// One number made of a polynomial and of whether it is raised.
 fn taking_hash(raised: bool, right: &Poly) -> u32 {
     let number = if raised { 1 } else { 0 };
-    folded(digest_with(number, right.digest()))
+    mixed(number, sketch(right))
 }
 
 /// What is kept of that the left symbol takes, if there is something; it is looked for in the chain

@@ -6,7 +6,7 @@ use rx_plain::NoMemory;
 use std::alloc::Global;
 
 /// How many chains there are.
-const CHAINS: usize = 32;
+const CHAINS: usize = 256;
 
 /// By hash the place of the last element with such a hash.
 #[derive(Drop)]

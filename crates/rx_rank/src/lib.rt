@@ -4,6 +4,7 @@
 mod attempt;
 mod candidates;
 mod choice;
+mod choice_problem;
 mod component;
 mod exchange;
 mod filling;
@@ -11,11 +12,14 @@ mod fitting;
 mod kind;
 mod known_pair;
 mod last_places;
+mod numbered;
+mod numbering;
 mod open_component;
 mod order;
 mod pair_memo;
 mod pair_tests;
 mod partition;
+mod quick;
 mod representatives;
 mod taking;
 

@@ -12,13 +12,16 @@ use std::alloc::Global;
 use std::marker::Model;
 
 /// Of how many pairs answers are kept at most.
-const MOST_PAIRS: usize = 1024;
+const MOST_PAIRS: usize = 512;
 
-/// What was found out of pairs. It may be used with any rules and any solver. At most 1,024 pairs
-/// are kept, and of each the first 1,024 answers; contracts see the number of the pairs.
+/// What was found out of pairs. It may be used with any rules and any solver. At most 512 pairs are
+/// kept, where a later one may take the place of another, and of each the first 256 answers;
+/// contracts see the number of the pairs.
 #[derive(Drop)]
 pub struct PairMemo {
     known: Vec<KnownPair>,
+    /// Where the next pair goes, where there is no room for more.
+    next: usize,
 }
 
 impl Model for PairMemo {
@@ -31,7 +34,7 @@ impl Model for PairMemo {
 
     ghost view = { λ m. length m.known.items };
 
-    ghost invariant = { λ m. length m.known.items ≤ 1024 };
+    ghost invariant = { λ m. length m.known.items ≤ 512 };
 }
 
 /// Whether both are one pair. The arguments on the right differ most often.
@@ -50,7 +53,7 @@ fn is_same_pair(first: &Pair, second: &Pair) -> bool
     first.phi.is_same(&second.phi)
 }
 
-/// The place of the pair, if it is there. Those that were used last are at the end.
+/// The place of the pair, if it is there. Those that were used last are mostly at the end.
 fn find_pair(known: &[KnownPair], pair: &Pair) -> Option<usize>
     ensures { IfSome result (λ at. slice_get known.now at ≡ Some pair.now) }
 {
@@ -60,6 +63,16 @@ fn find_pair(known: &[KnownPair], pair: &Pair) -> Option<usize>
         }
     }
     None
+}
+
+/// Puts the pair in the place of another one.
+fn put_in_place(known: &mut Vec<KnownPair>, next: usize, pair: KnownPair)
+    ensures { length known.new.items ≡ length known.old.items }
+{
+    let place = next % MOST_PAIRS;
+    if place < known.len() {
+        known[place] = pair;
+    }
 }
 
 /// Takes the pair out, or makes it where it isn't there.
@@ -80,6 +93,7 @@ impl PairMemo {
     {
         PairMemo {
             known: Vec::new(alloc),
+            next: 0,
         }
     }
 
@@ -98,13 +112,16 @@ impl PairMemo {
         Ok(taken)
     }
 
-    /// Keeps these pairs too, as long as there is room for them.
+    /// Keeps these pairs too; where there is no room for more, each takes the place of another one.
     pub(crate) fn put_back(&mut self, pairs: Vec<KnownPair>) -> Result<(), NoMemory>
-        ensures { OnOk result (self.new ≡ min 1024 (self.old + length pairs.items)) }
+        ensures { OnOk result (self.new ≡ min 512 (self.old + length pairs.items)) }
     {
         for pair in pairs {
             if self.known.len() < MOST_PAIRS {
                 self.known.push(pair)?;
+            } else {
+                put_in_place(&mut self.known, self.next, pair);
+                self.next = self.next.wrapping_add(1);
             }
         }
         Ok(())

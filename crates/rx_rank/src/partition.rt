@@ -15,7 +15,9 @@ ghost use Rattle.rx_solve.specs.Answers.{IsSolver};
 use crate::attempt::{Attempt, noted_before};
 use crate::candidates::{CandidateLists, all_lists};
 use crate::choice::first_fit;
+use crate::choice_problem::ChoiceProblem;
 use crate::fitting::Fit;
+use crate::numbered::NumberedPairs;
 use crate::open_component::OpenComponent;
 use crate::order::order_of;
 use crate::pair_memo::PairMemo;
@@ -89,19 +91,16 @@ fn first_fit_with<S: FnMut(&Constraint) -> Result<Option<Cert>, FmEnd>>(
         (IsFirstFit infos.now (pairs_at pairs.now) anchors.now order.now
         (all_choices raisable.now (take most (products (lists_in lists.now)))))) }
 {
-    let mut known = memo.take(alloc, pairs)?;
-    let fit = first_fit(
-        alloc,
-        most,
+    let problem = ChoiceProblem {
         infos,
-        known.as_mut_slice(),
         anchors,
-        raisable,
         lists,
         order,
-        solve,
-    )?;
-    memo.put_back(known)?;
+        raisable,
+    };
+    let mut numbered = NumberedPairs::new(alloc, memo.take(alloc, pairs)?);
+    let fit = first_fit(alloc, most, &problem, &mut numbered, solve)?;
+    memo.put_back(numbered.into_pairs())?;
     Ok(fit)
 }
 

@@ -14,70 +14,82 @@ use Rattle.rx_rank.proofs.choice.first_fit.Goals as goal
 pub returns-then-is_some-clause-tried : goal.returns-then-is_some-clause-tried
 returns-then-is_some-clause-tried g c =
     let a = c.args in
-    let all = take a.most (products (lists_in a.lists.now)) in
-    plain_fits a.infos.now a.pairs.now a.anchors.now a.order.now a.raisable.now all
-    (λ fit. still_open a.pairs.now fit.falls.items) c.in_ok-plain.plain.made
+    let q = c.args.problem.now in
+    let given = c.args.numbered.now.pairs in
+    let all = take a.most (products (lists_in q.lists.now)) in
+    plain_fits q.infos.now given q.anchors.now q.order.now q.raisable.now all
+    (λ fit. still_open given fit.falls.items) c.in_ok-plain.plain.made
     c.in_ok-plain.plain.noted c.in_ok-plain.ensures.tried
     (sym c.is_some.ensures ∙ c.if-is_some.true)
 
 pub returns-then-is_some-clause-fit : goal.returns-then-is_some-clause-fit
 returns-then-is_some-clause-fit g c =
     let a = c.args in
-    let all = take a.most (products (lists_in a.lists.now)) in
-    fit_among_more a.infos.now a.pairs.now a.anchors.now a.order.now (map plain_choice all)
-    (all_choices a.raisable.now all) c.in_ok-plain.plain.made (among_plain a.raisable.now all)
+    let q = c.args.problem.now in
+    let given = c.args.numbered.now.pairs in
+    let all = take a.most (products (lists_in q.lists.now)) in
+    fit_among_more q.infos.now given q.anchors.now q.order.now (map plain_choice all)
+    (all_choices q.raisable.now all) c.in_ok-plain.plain.made (among_plain q.raisable.now all)
     c.in_ok-plain.ensures.fit
 
 pub returns-then-is_empty-clause-tried : goal.returns-then-is_empty-clause-tried
 returns-then-is_empty-clause-tried g c =
     let a = c.args in
-    let all = take a.most (products (lists_in a.lists.now)) in
-    let try_it = choosing a.infos.now a.pairs.now a.anchors.now a.order.now in
-    let empty : a.raisable.now ≡ [] =
-    empty_list a.raisable.now (sym c.is_empty.ensures ∙ c.if-is_empty.true) in
+    let q = c.args.problem.now in
+    let given = c.args.numbered.now.pairs in
+    let all = take a.most (products (lists_in q.lists.now)) in
+    let try_it = choosing q.infos.now given q.anchors.now q.order.now in
+    let empty : q.raisable.now ≡ [] =
+    empty_list q.raisable.now (sym c.is_empty.ensures ∙ c.if-is_empty.true) in
     c.in_ok-plain.ensures.tried
-    ∙ plain_alone a.infos.now a.pairs.now a.anchors.now a.order.now all
+    ∙ plain_alone q.infos.now given q.anchors.now q.order.now all
     ∙ ap (λ symbols. first_applying (map try_it (all_choices symbols all))) (sym empty)
 
 pub returns-then-is_empty-clause-fit : goal.returns-then-is_empty-clause-fit
 returns-then-is_empty-clause-fit g c =
     let a = c.args in
-    let all = take a.most (products (lists_in a.lists.now)) in
-    fit_among_more a.infos.now a.pairs.now a.anchors.now a.order.now (map plain_choice all)
-    (all_choices a.raisable.now all) c.in_ok-plain.plain.made (among_plain a.raisable.now all)
+    let q = c.args.problem.now in
+    let given = c.args.numbered.now.pairs in
+    let all = take a.most (products (lists_in q.lists.now)) in
+    fit_among_more q.infos.now given q.anchors.now q.order.now (map plain_choice all)
+    (all_choices q.raisable.now all) c.in_ok-plain.plain.made (among_plain q.raisable.now all)
     c.in_ok-plain.ensures.fit
 
 pub returns-clause-tried : goal.returns-clause-tried
 returns-clause-tried g c =
     let a = c.args in
-    let all = take a.most (products (lists_in a.lists.now)) in
-    let view : Fit → List Pair = λ fit. still_open a.pairs.now fit.falls.items in
+    let q = c.args.problem.now in
+    let given = c.args.numbered.now.pairs in
+    let all = take a.most (products (lists_in q.lists.now)) in
+    let view : Fit → List Pair = λ fit. still_open given fit.falls.items in
     let raised = c.in_ok-raised.raised in
     let tried : record { made = option_map view raised.made; noted = raised.noted } ≡
-    first_applying (map (choosing a.infos.now a.pairs.now a.anchors.now a.order.now)
-    (flat_map (raised_choices a.raisable.now) all)) =
+    first_applying (map (choosing q.infos.now given q.anchors.now q.order.now)
+    (flat_map (raised_choices q.raisable.now) all)) =
     subst (λ (qs : List Pair). tried_as (λ fit. still_open qs fit.falls.items) raised ≡
-    first_applying (map (choosing a.infos.now qs a.anchors.now a.order.now)
-    (flat_map (raised_choices a.raisable.now) all))) c.first_plain.ensures.pairs
+    first_applying (map (choosing q.infos.now qs q.anchors.now q.order.now)
+    (flat_map (raised_choices q.raisable.now) all))) c.first_plain.ensures.pairs
     c.in_ok-raised.ensures.tried in
     (λ j. record {
       made = option_map view (c.noted_before.ensures.made j);
       noted = c.noted_before.ensures.noted j;
     })
-    ∙ raised_decide a.infos.now a.pairs.now a.anchors.now a.order.now a.raisable.now all view
+    ∙ raised_decide q.infos.now given q.anchors.now q.order.now q.raisable.now all view
     c.in_ok-plain.plain.made c.in_ok-plain.plain.noted c.in_ok-plain.ensures.tried raised.made
     raised.noted (sym c.is_some.ensures ∙ c.if-is_some.false) tried
 
 pub returns-clause-fit : goal.returns-clause-fit
 returns-clause-fit g c =
     let a = c.args in
-    let all = take a.most (products (lists_in a.lists.now)) in
+    let q = c.args.problem.now in
+    let given = c.args.numbered.now.pairs in
+    let all = take a.most (products (lists_in q.lists.now)) in
     let raised = c.in_ok-raised.raised in
-    let first = subst (λ (qs : List Pair). IfSome raised.made (IsFirstFit a.infos.now qs
-    a.anchors.now a.order.now (flat_map (raised_choices a.raisable.now) all)))
+    let first = subst (λ (qs : List Pair). IfSome raised.made (IsFirstFit q.infos.now qs
+    q.anchors.now q.order.now (flat_map (raised_choices q.raisable.now) all)))
     c.first_plain.ensures.pairs c.in_ok-raised.ensures.fit in
-    subst (λ m. IfSome m (IsFirstFit a.infos.now a.pairs.now a.anchors.now a.order.now
-    (all_choices a.raisable.now all))) (sym c.noted_before.ensures.made)
-    (fit_among_more a.infos.now a.pairs.now a.anchors.now a.order.now
-    (flat_map (raised_choices a.raisable.now) all) (all_choices a.raisable.now all) raised.made
-    (among_raised a.raisable.now all) first)
+    subst (λ m. IfSome m (IsFirstFit q.infos.now given q.anchors.now q.order.now
+    (all_choices q.raisable.now all))) (sym c.noted_before.ensures.made)
+    (fit_among_more q.infos.now given q.anchors.now q.order.now
+    (flat_map (raised_choices q.raisable.now) all) (all_choices q.raisable.now all) raised.made
+    (among_raised q.raisable.now all) first)

@@ -7,6 +7,7 @@ use Rattle.rx_anchors.specs.Choices.{lists_in, products}
 use Rattle.rx_anchors.specs.Values.{polys_at}
 use Rattle.rx_rank.specs.Answers.{IsChosen, still_open, tried_as}
 use Rattle.rx_rank.specs.Choices.{choosing, plain_choice}
+use Rattle.rx_rank.specs.Numbers.{Numbered}
 use Rattle.rx_rank.specs.declared.fitting.Fit.{Fit}
 use Rattle.rx_rank.proofs.Choosing.{choice_fits, first_of, fit_among, later_choices, mapped_nowhere, mapped_place, no_choice, taken_past, taken_place}
 use Rattle.rx_rank.proofs.choice.first_plain.Goals as goal
@@ -14,13 +15,15 @@ use Rattle.rx_rank.proofs.choice.first_plain.Goals as goal
 pub returns-in-None-clause-tried : goal.returns-in-None-clause-tried
 returns-in-None-clause-tried g c =
     let a = c.args in
-    let all = take a.most (products (lists_in a.lists.now)) in
+    let q = c.args.problem.now in
+    let given = c.args.numbered.now.pairs in
+    let all = take a.most (products (lists_in q.lists.now)) in
     let plain = map plain_choice all in
-    let try_it = choosing a.infos.now a.pairs.now a.anchors.now a.order.now in
+    let try_it = choosing q.infos.now given q.anchors.now q.order.now in
     let at = c.loop-at.at in
     let below : at < a.most = omega (arith, c.loop-at-test.true) in
     let none : slice_get all at ≡ None =
-    taken_place a.most (products (lists_in a.lists.now)) at below
+    taken_place a.most (products (lists_in q.lists.now)) at below
     ∙ sym (sym (ap (option_map (λ v. polys_at v.items)) c.in-None.is) ∙ c.in_ok-choice.ensures) in
     no_choice try_it plain at c.loop-at.noted (first_of try_it plain plain)
     c.loop-at.invariant.decides (mapped_nowhere plain_choice all at none)
@@ -28,59 +31,67 @@ returns-in-None-clause-tried g c =
 pub returns-clause-tried : goal.returns-clause-tried
 returns-clause-tried g c =
     let a = c.args in
-    let all = take a.most (products (lists_in a.lists.now)) in
+    let q = c.args.problem.now in
+    let given = c.args.numbered.now.pairs in
+    let all = take a.most (products (lists_in q.lists.now)) in
     let plain = map plain_choice all in
-    let try_it = choosing a.infos.now a.pairs.now a.anchors.now a.order.now in
+    let try_it = choosing q.infos.now given q.anchors.now q.order.now in
     let at = c.loop-at.at in
     let past : a.most ≤ at = omega (arith, c.loop-at-test.false) in
     no_choice try_it plain at c.loop-at.noted (first_of try_it plain plain)
     c.loop-at.invariant.decides (mapped_nowhere plain_choice all at
-    (taken_past a.most (products (lists_in a.lists.now)) at past))
+    (taken_past a.most (products (lists_in q.lists.now)) at past))
 
 pub returns-then-is_some-clause-fit : goal.returns-then-is_some-clause-fit
 returns-then-is_some-clause-fit g c =
     let a = c.args in
-    let all = take a.most (products (lists_in a.lists.now)) in
+    let q = c.args.problem.now in
+    let given = c.args.numbered.now.pairs in
+    let all = take a.most (products (lists_in q.lists.now)) in
     let plain = map plain_choice all in
     let at = c.loop-at.at in
     let made = c.in_ok-attempt.attempt.made in
     let choice = polys_at c.in-Some.choice.items in
     let below : at < a.most = omega (arith, c.loop-at-test.true) in
     let there : slice_get all at ≡ Some choice =
-    taken_place a.most (products (lists_in a.lists.now)) at below
+    taken_place a.most (products (lists_in q.lists.now)) at below
     ∙ sym (sym (ap (option_map (λ v. polys_at v.items)) c.in-Some.is) ∙ c.in_ok-choice.ensures) in
-    let here = subst (λ qs. IfSome made (IsChosen a.infos.now qs a.anchors.now a.order.now
-    (plain_choice (polys_at c.as_slice-chosen.result.now)))) c.loop-at.invariant.same
+    let here = subst (λ qs. IfSome made (IsChosen q.infos.now qs q.anchors.now q.order.now
+    (plain_choice (polys_at c.as_slice-chosen.result.now)))) (c.number_after.ensures ∙
+    c.loop-at.invariant.same)
     c.in_ok-attempt.ensures.fit in
-    let chosen = subst (λ ps. IfSome made (IsChosen a.infos.now a.pairs.now a.anchors.now
-    a.order.now (plain_choice (polys_at ps)))) c.as_slice-chosen.ensures.value here in
-    fit_among a.infos.now a.pairs.now a.anchors.now a.order.now plain (plain_choice choice) made
+    let chosen = subst (λ ps. IfSome made (IsChosen q.infos.now given q.anchors.now
+    q.order.now (plain_choice (polys_at ps)))) c.as_slice-chosen.ensures.value here in
+    fit_among q.infos.now given q.anchors.now q.order.now plain (plain_choice choice) made
     (at_place plain at (plain_choice choice) (mapped_place plain_choice all at choice there)) chosen
 
 pub returns-then-is_some-clause-tried : goal.returns-then-is_some-clause-tried
 returns-then-is_some-clause-tried g c =
     let a = c.args in
-    let all = take a.most (products (lists_in a.lists.now)) in
+    let q = c.args.problem.now in
+    let given = c.args.numbered.now.pairs in
+    let all = take a.most (products (lists_in q.lists.now)) in
     let plain = map plain_choice all in
-    let try_it = choosing a.infos.now a.pairs.now a.anchors.now a.order.now in
+    let try_it = choosing q.infos.now given q.anchors.now q.order.now in
     let at = c.loop-at.at in
     let made = c.in_ok-attempt.attempt.made in
     let choice = polys_at c.in-Some.choice.items in
     let below : at < a.most = omega (arith, c.loop-at-test.true) in
     let there : slice_get all at ≡ Some choice =
-    taken_place a.most (products (lists_in a.lists.now)) at below
+    taken_place a.most (products (lists_in q.lists.now)) at below
     ∙ sym (sym (ap (option_map (λ v. polys_at v.items)) c.in-Some.is) ∙ c.in_ok-choice.ensures) in
-    let view : Fit → List Pair = λ fit. still_open a.pairs.now fit.falls.items in
+    let view : Fit → List Pair = λ fit. still_open given fit.falls.items in
     let before = c.loop-at.noted in
     let more = c.in_ok-attempt.attempt.noted in
     let tried : record { made = option_map view made; noted = more } ≡
-    choosing a.infos.now a.pairs.now a.anchors.now a.order.now (plain_choice choice) =
+    choosing q.infos.now given q.anchors.now q.order.now (plain_choice choice) =
     subst (λ ps. record { made = option_map view made; noted = more } ≡
-    choosing a.infos.now a.pairs.now a.anchors.now a.order.now (plain_choice (polys_at ps)))
+    choosing q.infos.now given q.anchors.now q.order.now (plain_choice (polys_at ps)))
     c.as_slice-chosen.ensures.value
     (subst (λ (qs : List Pair). tried_as (λ fit. still_open qs fit.falls.items)
-    c.in_ok-attempt.attempt ≡ choosing a.infos.now qs a.anchors.now a.order.now
-    (plain_choice (polys_at c.as_slice-chosen.result.now))) c.loop-at.invariant.same
+    c.in_ok-attempt.attempt ≡ choosing q.infos.now qs q.anchors.now q.order.now
+    (plain_choice (polys_at c.as_slice-chosen.result.now))) (c.number_after.ensures ∙
+    c.loop-at.invariant.same)
     c.in_ok-attempt.ensures.tried) in
     choice_fits try_it plain at before (first_of try_it plain plain)
     c.loop-at.invariant.decides (plain_choice choice)
@@ -90,31 +101,35 @@ returns-then-is_some-clause-tried g c =
 pub loop-at-preserved : goal.loop-at-preserved
 loop-at-preserved g c =
     let a = c.args in
-    let all = take a.most (products (lists_in a.lists.now)) in
+    let q = c.args.problem.now in
+    let given = c.args.numbered.now.pairs in
+    let all = take a.most (products (lists_in q.lists.now)) in
     let plain = map plain_choice all in
-    let try_it = choosing a.infos.now a.pairs.now a.anchors.now a.order.now in
+    let try_it = choosing q.infos.now given q.anchors.now q.order.now in
     let at = c.loop-at.at in
     let made = c.in_ok-attempt.attempt.made in
     let choice = polys_at c.in-Some.choice.items in
     let below : at < a.most = omega (arith, c.loop-at-test.true) in
     let there : slice_get all at ≡ Some choice =
-    taken_place a.most (products (lists_in a.lists.now)) at below
+    taken_place a.most (products (lists_in q.lists.now)) at below
     ∙ sym (sym (ap (option_map (λ v. polys_at v.items)) c.in-Some.is) ∙ c.in_ok-choice.ensures) in
-    let view : Fit → List Pair = λ fit. still_open a.pairs.now fit.falls.items in
+    let view : Fit → List Pair = λ fit. still_open given fit.falls.items in
     let before = c.loop-at.noted in
     let more = c.in_ok-attempt.attempt.noted in
     let tried : record { made = option_map view made; noted = more } ≡
-    choosing a.infos.now a.pairs.now a.anchors.now a.order.now (plain_choice choice) =
+    choosing q.infos.now given q.anchors.now q.order.now (plain_choice choice) =
     subst (λ ps. record { made = option_map view made; noted = more } ≡
-    choosing a.infos.now a.pairs.now a.anchors.now a.order.now (plain_choice (polys_at ps)))
+    choosing q.infos.now given q.anchors.now q.order.now (plain_choice (polys_at ps)))
     c.as_slice-chosen.ensures.value
     (subst (λ (qs : List Pair). tried_as (λ fit. still_open qs fit.falls.items)
-    c.in_ok-attempt.attempt ≡ choosing a.infos.now qs a.anchors.now a.order.now
-    (plain_choice (polys_at c.as_slice-chosen.result.now))) c.loop-at.invariant.same
+    c.in_ok-attempt.attempt ≡ choosing q.infos.now qs q.anchors.now q.order.now
+    (plain_choice (polys_at c.as_slice-chosen.result.now))) (c.number_after.ensures ∙
+    c.loop-at.invariant.same)
     c.in_ok-attempt.ensures.tried) in
     record {
       solver = c.choosing.ensures.solver;
-      same = c.choosing.ensures.pairs ∙ c.loop-at.invariant.same;
+      same = ap (λ (n : Numbered). n.pairs) c.choosing.ensures.same ∙ c.number_after.ensures
+          ∙ c.loop-at.invariant.same;
       decides = later_choices try_it plain at before (first_of try_it plain plain)
           c.loop-at.invariant.decides (plain_choice choice)
           (mapped_place plain_choice all at choice there) view made more tried

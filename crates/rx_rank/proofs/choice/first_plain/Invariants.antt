@@ -10,10 +10,12 @@ use Rattle.rx_rank.proofs.choice.first_plain.Given as goal
 abbrev pub invariant-loop-at : goal.invariant-loop-at
 invariant-loop-at g l = record {
   solver : IsSolver g.S.FnMut l.solve;
-  same : l.pairs ≡ l.fn.pairs;
+  same : l.numbered.pairs ≡ l.fn.numbered.pairs;
   decides :
-      noting l.noted (first_applying (map (choosing l.infos l.fn.pairs l.anchors l.order)
-      (drop l.at (map plain_choice (take l.most (products (lists_in l.lists)))))))
-      ≡ first_applying (map (choosing l.infos l.fn.pairs l.anchors l.order)
-      (map plain_choice (take l.most (products (lists_in l.lists)))));
+      noting l.noted (first_applying (map (choosing l.problem.infos.now l.fn.numbered.pairs
+      l.problem.anchors.now l.problem.order.now)
+      (drop l.at (map plain_choice (take l.most (products (lists_in l.problem.lists.now)))))))
+      ≡ first_applying (map (choosing l.problem.infos.now l.fn.numbered.pairs
+      l.problem.anchors.now l.problem.order.now)
+      (map plain_choice (take l.most (products (lists_in l.problem.lists.now)))));
 }

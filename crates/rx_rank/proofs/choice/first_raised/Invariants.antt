@@ -11,11 +11,14 @@ use Rattle.rx_rank.proofs.choice.first_raised.Given as goal
 abbrev pub invariant-loop-at : goal.invariant-loop-at
 invariant-loop-at g l = record {
   solver : IsSolver g.S.FnMut l.solve;
-  same : l.pairs ≡ l.fn.pairs;
+  same : l.numbered.pairs ≡ l.fn.numbered.pairs;
   decides :
       noting l.noted (first_applying (map (λ polys. first_applying
-      (map (choosing l.infos l.fn.pairs l.anchors l.order) (raised_choices l.raisable polys)))
-      (drop l.at (take l.most (products (lists_in l.lists))))))
-      ≡ first_applying (map (choosing l.infos l.fn.pairs l.anchors l.order)
-      (flat_map (raised_choices l.raisable) (take l.most (products (lists_in l.lists)))));
+      (map (choosing l.problem.infos.now l.fn.numbered.pairs l.problem.anchors.now
+      l.problem.order.now) (raised_choices l.problem.raisable.now polys)))
+      (drop l.at (take l.most (products (lists_in l.problem.lists.now))))))
+      ≡ first_applying (map (choosing l.problem.infos.now l.fn.numbered.pairs
+      l.problem.anchors.now l.problem.order.now)
+      (flat_map (raised_choices l.problem.raisable.now) (take l.most (products (lists_in
+      l.problem.lists.now)))));
 }

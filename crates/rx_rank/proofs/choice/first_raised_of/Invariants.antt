@@ -10,10 +10,12 @@ use Rattle.rx_rank.proofs.choice.first_raised_of.Given as goal
 abbrev pub invariant-loop-symbol : goal.invariant-loop-symbol
 invariant-loop-symbol g l = record {
   solver : IsSolver g.S.FnMut l.solve;
-  same : l.pairs ≡ l.fn.pairs;
+  same : l.numbered ≡ l.fn.numbered;
   decides :
-      noting l.noted (first_applying (map (choosing l.infos l.fn.pairs l.anchors l.order)
-      (drop l.symbol-index (raised_choices l.raisable (polys_at l.choice)))))
-      ≡ first_applying (map (choosing l.infos l.fn.pairs l.anchors l.order)
-      (raised_choices l.raisable (polys_at l.choice)));
+      noting l.noted (first_applying (map (choosing l.problem.infos.now l.fn.numbered.pairs
+      l.problem.anchors.now l.problem.order.now)
+      (drop l.symbol-index (raised_choices l.problem.raisable.now (polys_at l.choice)))))
+      ≡ first_applying (map (choosing l.problem.infos.now l.fn.numbered.pairs
+      l.problem.anchors.now l.problem.order.now)
+      (raised_choices l.problem.raisable.now (polys_at l.choice)));
 }

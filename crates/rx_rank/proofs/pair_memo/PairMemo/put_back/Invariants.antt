@@ -4,7 +4,7 @@ use Rattle.rx_rank.proofs.pair_memo.PairMemo.put_back.Given as goal
 
 abbrev pub invariant-loop-pair : goal.invariant-loop-pair
 invariant-loop-pair l = record {
-  count : min 1024 (length l.self-inside.known.items + length l.pair-iterator.rest.items) ≡
-      min 1024 (l.fn.self + length l.fn.pairs.items);
-  few : length l.self-inside.known.items ≤ 1024;
+  count : min 512 (length l.self-inside.known.items + length l.pair-iterator.rest.items) ≡
+      min 512 (l.fn.self + length l.fn.pairs.items);
+  few : length l.self-inside.known.items ≤ 512;
 }
